@@ -1,0 +1,17 @@
+pub mod Ring
+pub mod Sums
+pub mod Places
+pub mod Polynomials
+pub mod Product
+pub mod Massey
+pub mod Berlekamp
+pub mod Roots
+pub mod Locator
+pub mod Weights
+pub mod FirstRoot
+pub mod Peel
+pub mod Encoder
+pub mod Elements
+pub mod Numbers
+pub mod Lines
+pub mod Theorems

@@ -1,0 +1,3 @@
+pub mod Zeros
+pub mod Differ
+pub mod Apart

@@ -1,0 +1,59 @@
+// Reads a block of a disc from standard input, judges every row and every column of it, and prints the work done.
+use scanning::COLUMNS;
+use scanning::Judgement;
+use scanning::ROWS;
+use scanning::Unmarked;
+use scanning::UnmarkedDisplay;
+use scanning::count;
+use scanning::judge;
+use std::error::AnyError;
+use std::io::Read;
+
+// A block, and one byte more, by which a longer input is told.
+const ENOUGH: u64 = 37857;
+
+// The check symbols of a row and of a column, each with its syndrome.
+const ROW_CHECKS: usize = 10;
+
+const COLUMN_CHECKS: usize = 16;
+
+fn show(rt: &LibcRuntime, judgement: &Judgement) -> Result<(), AnyError> {
+    let sound_rows = count(&judgement.rows);
+    let other_rows = Unmarked(&judgement.rows);
+    println!(
+        rt,
+        "rows: {sound_rows} of {ROWS} are codewords; not: {other_rows}"
+    )?;
+    let sound_columns = count(&judgement.columns);
+    let other_columns = Unmarked(&judgement.columns);
+    println!(
+        rt,
+        "columns: {sound_columns} of {COLUMNS} are codewords; not: {other_columns}"
+    )?;
+    let symbols = ROWS * COLUMNS;
+    println!(
+        rt,
+        "work: {symbols} symbols through {ROW_CHECKS} syndromes by rows and through {COLUMN_CHECKS} by columns"
+    )?;
+    Ok(())
+}
+
+fn run(rt: &LibcRuntime) -> Result<(), AnyError> {
+    let mut block = Vec::new(rt.alloc());
+    let _ = rt.stdin().take(ENOUGH).read_to_end(&mut block)?;
+    match judge(&block) {
+        Ok(judgement) => show(rt, &judgement),
+        Err(why) => {
+            let number = why.number();
+            println!(
+                rt,
+                "refused {number}: the block is not {ROWS} rows of {COLUMNS} bytes"
+            )?;
+            Ok(())
+        }
+    }
+}
+
+fn main(rt: LibcRuntime) -> Result<(), AnyError> {
+    rt.report(run(&rt))
+}
