@@ -46,7 +46,13 @@ fn judged<F: Field>(length: u64, dimension: u64, root: u64, line: &[u8]) -> Opti
 }
 
 // Codes a line in both ways that the disc field computes, and tells whether they agree. `None` where something was refused.
-fn coded(length: u64, dimension: u64, root: u64, line: &mut [u8], again: &mut [u8]) -> Option<bool> {
+fn coded(
+    length: u64,
+    dimension: u64,
+    root: u64,
+    line: &mut [u8],
+    again: &mut [u8],
+) -> Option<bool> {
     let numbers = CodeNumbers::new(length, dimension, root, 256).ok()?;
     let tables = Coder::<DiscTables>::new(numbers).ok()?;
     let shifts = Coder::<DiscShifts>::new(numbers).ok()?;
@@ -141,8 +147,14 @@ mod tests {
         check_eq(refused_for::<DiscShifts>(6, 4, 0, 64), 6)?;
         check_eq(refused_for::<DiscShifts>(6, 4, 0, 256), 0)?;
         check_eq(judged::<DiscTables>(6, 4, 0, &[0, 0, 0, 1, 3]), None)?;
-        check_eq(judged::<DiscTables>(6, 4, 0, &[0, 0, 0, 1, 3, 2]), Some(true))?;
-        check_eq(judged::<DiscShifts>(6, 4, 0, &[0, 0, 0, 1, 3, 3]), Some(false))
+        check_eq(
+            judged::<DiscTables>(6, 4, 0, &[0, 0, 0, 1, 3, 2]),
+            Some(true),
+        )?;
+        check_eq(
+            judged::<DiscShifts>(6, 4, 0, &[0, 0, 0, 1, 3, 3]),
+            Some(false),
+        )
     }
 
     #[test]
