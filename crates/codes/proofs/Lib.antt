@@ -1,1 +1,3 @@
-pub mod Frames
+pub mod Rows
+pub mod Places
+pub mod Views

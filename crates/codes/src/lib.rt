@@ -2,6 +2,11 @@
 ghost use mathlib.Core.Path.{_≡_};
 ghost use Rattle.codes.specs.Answers.{number};
 
+mod columns;
+
+pub use crate::columns::put_column;
+pub use crate::columns::take_column;
+
 // What a call on a line refuses.
 #[derive(Clone, Copy)]
 pub enum Refusal {

@@ -6,7 +6,8 @@ use native.Mathlib.Omega.{arith}
 use lib.Bits.{bitXor, xor-assoc, xor-comm, xor-self, xor-zero-r, xor-lt}
 use lib.Dec.{lit<}
 use Rattle.fields.specs.Binary.{keep, times, shift, product, carryless, Multiple, none, more, Remainder, Reduced}
-use Rattle.fields.proofs.Computed.{Tests, laws, log, facts}
+use Rattle.fields.proofs.Capped.{mul-in}
+use Rattle.fields.proofs.Computed.{Tests, elements, laws, log, facts}
 use Rattle.fields.proofs.Cyclic.{iter, iter-iter, swap, double-xor, times-xor}
 use Rattle.fields.proofs.Cyclic as cyclic
 
@@ -136,7 +137,9 @@ module _ (m p : ℕ) (t : Tests m p) (degree : p < 2 ^ suc m) (root : times (shi
   pub reduced : Reduced m p
   unfolding product
   reduced = record {
-    is = λ a b ha hb. record { short = laws m p t .mul-below a b ha hb; divides = reduces m p m a b };
+    is = λ a b ha hb.
+        subst (Remainder m p (carryless m a b)) (sym (mul-in (elements m p) (laws m p t) a b ha hb))
+        (record { short = laws m p t .mul-below a b ha hb; divides = reduces m p m a b });
     only = λ z r s x y.
         same-of-xor r s (short-multiple (bitXor r s)
         (subst (Multiple p) (swap z r z s ∙ ap (λ n. bitXor n (bitXor r s)) (xor-self z)) (both p _ _ (x .divides) (y .divides)))

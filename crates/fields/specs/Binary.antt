@@ -4,7 +4,7 @@ use Prim.Native.Nat.{ℕ, zero, suc, _*_, _/_, _%_, _-_, _^_, _<_}
 use lib.Bits.{bitXor}
 use Rattle.fields.specs.Laws.{power, Meaning, capped}
 
--- a, where the digit d is not 0
+-- a, where the digit d is not 0, and else 0
 abbrev pub keep : ℕ → ℕ → ℕ
 keep zero a = 0
 keep (suc d) a = a
@@ -52,7 +52,8 @@ pub record Remainder (m p z r : ℕ) : Type 0 where
   pub short : r < 2 ^ m
   pub divides : Multiple p (bitXor z r)
 
--- the product of two elements is the remainder of the product of their polynomials, and there is no other remainder
+-- in the field of degree m the product of two elements is the remainder of the product of their polynomials,
+-- and there is no other remainder
 pub record Reduced (m p : ℕ) : Type 0 where
-  pub is : (a b : ℕ) → a < 2 ^ m → b < 2 ^ m → Remainder m p (carryless m a b) (product m p a b)
+  pub is : (a b : ℕ) → a < 2 ^ m → b < 2 ^ m → Remainder m p (carryless m a b) (binary m p .mul a b)
   pub only : (z r s : ℕ) → Remainder m p z r → Remainder m p z s → r ≡ s

@@ -4,14 +4,16 @@ ghost use Prim.Native.Nat.{_<_, _≤_};
 ghost use Rattle.fields.specs.Laws.{Meaning, FieldLaws};
 ghost use Rattle.fields.specs.Binary.{disc, Reduced};
 
+mod disc_shifts;
+mod gf64;
 mod shifts;
 mod tables;
 
-pub use crate::shifts::DiscShifts;
-pub use crate::shifts::DiscShiftsField;
-pub use crate::shifts::DiscShiftsIsDisc;
-pub use crate::shifts::Gf64;
-pub use crate::shifts::Gf64Field;
+pub use crate::disc_shifts::DiscShifts;
+pub use crate::disc_shifts::DiscShiftsField;
+pub use crate::disc_shifts::DiscShiftsIsDisc;
+pub use crate::gf64::Gf64;
+pub use crate::gf64::Gf64Field;
 pub use crate::tables::DiscTables;
 pub use crate::tables::DiscTablesField;
 pub use crate::tables::DiscTablesIsDisc;

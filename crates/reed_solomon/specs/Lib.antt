@@ -1,4 +1,5 @@
 pub mod Numbers
 pub mod Words
+pub mod Disc
 pub mod Lines
 pub mod Theorems

@@ -1,6 +1,6 @@
-// Making code numbers from numbers of any size.
+// Making code numbers from numbers of 64 bits.
 ghost use mathlib.Core.Path.{_≡_};
-ghost use Rattle.reed_solomon.specs.Numbers.{number, Made};
+ghost use Rattle.reed_solomon.specs.Numbers.{number, Made, Within};
 use crate::numbers::CodeNumbers;
 
 // What the making of a code refuses.
@@ -22,7 +22,7 @@ impl Refusal {
 }
 
 impl CodeNumbers {
-    // Takes numbers of any size, and refuses them exactly when a limit fails.
+    // Refuses exactly when a limit fails.
     pub fn new(length: u64, dimension: u64, root: u64, order: u64) -> Result<CodeNumbers, Refusal>
         ensures { λ r. ⌜ Made length dimension root order r ⌝ }
     {
@@ -39,4 +39,9 @@ impl CodeNumbers {
             order: order as u16,
         })
     }
+
+    // Code numbers always keep their limits.
+    pub fn keep_limits(&self)
+        ensures { λ _. ⌜ Within (now (self .entry) .length) (now (self .entry) .dimension) (now (self .entry) .root) (now (self .entry) .order) ⌝ }
+    {}
 }

@@ -67,7 +67,7 @@ fn vanishes<F: Field>(line: &[u8], checks: usize, b: u8) -> bool
 // A Reed–Solomon line over the field F.
 #[derive(Drop)]
 pub struct Line<F: Field> {
-    pub numbers: CodeNumbers,
+    numbers: CodeNumbers,
     field: PhantomData<F>,
 }
 
@@ -83,6 +83,13 @@ impl<F: Field> Line<F> {
             numbers,
             field: PhantomData,
         })
+    }
+
+    // The code numbers that the line was made from.
+    pub fn numbers(&self) -> CodeNumbers
+        ensures { λ r. ⌜ r ≡ now (self .entry) .numbers ⌝ }
+    {
+        self.numbers
     }
 
     // Is the line a codeword? Another length is refused.

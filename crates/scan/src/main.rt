@@ -1,21 +1,19 @@
 // Reads a block of a disc from standard input, judges every row and every column of it, and prints the work done.
+mod listing;
+
+use crate::listing::Unmarked;
+use crate::listing::UnmarkedDisplay;
 use scanning::COLUMNS;
 use scanning::Judgement;
 use scanning::ROWS;
-use scanning::Unmarked;
-use scanning::UnmarkedDisplay;
 use scanning::count;
 use scanning::judge;
+use scanning::judging_work;
 use std::error::AnyError;
 use std::io::Read;
 
-// A block, and one byte more, by which a longer input is told.
-const ENOUGH: u64 = 37857;
-
-// The check symbols of a row and of a column, each with its syndrome.
-const ROW_CHECKS: usize = 10;
-
-const COLUMN_CHECKS: usize = 16;
+// A block and one byte more, by which a longer input is told.
+const ENOUGH: u64 = (ROWS * COLUMNS + 1) as u64;
 
 fn show(rt: &LibcRuntime, judgement: &Judgement) -> Result<(), AnyError> {
     let sound_rows = count(&judgement.rows);
@@ -30,10 +28,13 @@ fn show(rt: &LibcRuntime, judgement: &Judgement) -> Result<(), AnyError> {
         rt,
         "columns: {sound_columns} of {COLUMNS} are codewords; not: {other_columns}"
     )?;
-    let symbols = ROWS * COLUMNS;
+    let done = judging_work();
+    let symbols = done.symbols;
+    let by_rows = done.row_syndromes;
+    let by_columns = done.column_syndromes;
     println!(
         rt,
-        "work: {symbols} symbols through {ROW_CHECKS} syndromes by rows and through {COLUMN_CHECKS} by columns"
+        "work: {symbols} symbols through {by_rows} syndromes by rows and through {by_columns} by columns"
     )?;
     Ok(())
 }

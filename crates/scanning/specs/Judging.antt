@@ -6,10 +6,9 @@ use Prim.Native.Nat.{ℕ, _*_, _<_}
 use lib.ListN.{length, getD}
 use Rattle.std.specs.declared.result.Result.{Result}
 use Rattle.std.specs.declared.result.Result.the-variants.{Ok, Err}
-use Rattle.fields.specs.Binary.{disc}
 use Rattle.codes.specs.Meaning.{Meaning, Word}
 use Rattle.codes.specs.Frames.{row, column}
-use Rattle.reed_solomon.specs.Words.{reed-solomon}
+use Rattle.reed_solomon.specs.Disc.{disc-rows, disc-columns}
 use Rattle.scanning.specs.declared.Judgement.{Judgement}
 use Rattle.scanning.specs.declared.Refusal.{Refusal}
 use Rattle.scanning.specs.declared.Refusal.the-variants.{FrameLength}
@@ -17,13 +16,6 @@ use Rattle.scanning.specs.declared.Refusal.the-variants.{FrameLength}
 -- the numbers of the refusals
 abbrev pub number : Refusal → ℕ
 number FrameLength = 1
-
--- the codes of a disc's rows and columns
-abbrev pub rows : Meaning
-rows = reed-solomon disc 182 172 0 256
-
-abbrev pub columns : Meaning
-columns = reed-solomon disc 208 192 0 256
 
 -- a test that is yes exactly where P holds
 pub record Tells (yes : Bool) (P : Type 0) : Type 0 where
@@ -39,8 +31,8 @@ pub record Judged (frame : List ℕ) (j : Judgement) : Type 0 where
   pub long : length frame ≡ 208 * 182
   pub tall : length (j .rows) ≡ 208
   pub wide : length (j .columns) ≡ 182
-  pub rows-are : Marks rows (row 182 frame) (j .rows)
-  pub columns-are : Marks columns (column 182 208 frame) (j .columns)
+  pub rows-are : Marks disc-rows (row 182 frame) (j .rows)
+  pub columns-are : Marks disc-columns (column 182 208 frame) (j .columns)
 
 -- a block of another length is refused
 abbrev pub Judges : List ℕ → Result Judgement Refusal → Type 0

@@ -1,18 +1,19 @@
 // Judging a block of a disc: which of its rows and columns are codewords.
 ghost use mathlib.Core.Path.{_≡_};
-ghost use Prim.Native.Nat.{_+_, _*_, _<_, _≤_};
+ghost use Prim.Native.Nat.{_-_, _*_, _≤_};
 ghost use lib.ListN.{length};
 ghost use Rattle.fields.specs.Binary.{disc};
 ghost use Rattle.codes.specs.Meaning.{Word};
 ghost use Rattle.codes.specs.Frames.{row, column};
 ghost use Rattle.reed_solomon.specs.Lines.{code-of};
-ghost use Rattle.scanning.specs.Judging.{number, rows, columns, Tells, Marks, Judges};
+ghost use Rattle.reed_solomon.specs.Disc.{disc-rows, disc-columns};
+ghost use Rattle.scanning.specs.Judging.{number, Tells, Marks, Judges};
 
 mod listing;
 
-pub use crate::listing::Unmarked;
-pub use crate::listing::UnmarkedDisplay;
 pub use crate::listing::count;
+pub use crate::listing::next_run;
+use codes::take_column;
 use fields::DiscTables;
 use fields::DiscTablesField;
 use reed_solomon::Line;
@@ -42,6 +43,29 @@ impl Refusal {
     }
 }
 
+// What judging a block takes: its symbols, and the syndromes that each enters by its row and by its column.
+#[derive(Clone, Copy)]
+pub struct Work {
+    pub symbols: usize,
+    pub row_syndromes: u8,
+    pub column_syndromes: u8,
+}
+
+// The work of judging one block.
+pub fn judging_work() -> Work
+    ensures symbols { λ r. ⌜ r .symbols ≡ disc-columns .size * disc-rows .size ⌝ }
+    ensures row_syndromes { λ r. ⌜ r .«row_syndromes» ≡ 182 - 172 ⌝ }
+    ensures column_syndromes { λ r. ⌜ r .«column_syndromes» ≡ 208 - 192 ⌝ }
+{
+    let rows = disc_rows();
+    let columns = disc_columns();
+    Work {
+        symbols: columns.length as usize * rows.length as usize,
+        row_syndromes: rows.length - rows.dimension,
+        column_syndromes: columns.length - columns.dimension,
+    }
+}
+
 // For each row and each column, whether it is a codeword.
 #[derive(Clone, Copy)]
 pub struct Judgement {
@@ -51,7 +75,7 @@ pub struct Judgement {
 
 // A line of the disc's row code.
 fn row_line() -> Line<DiscTables>
-    ensures { λ r. ⌜ code-of disc (r .numbers) ≡ rows ⌝ }
+    ensures { λ r. ⌜ code-of disc (r .numbers) ≡ disc-rows ⌝ }
 {
     match Line::new(disc_rows()) {
         Ok(line) => line,
@@ -61,7 +85,7 @@ fn row_line() -> Line<DiscTables>
 
 // A line of the disc's column code.
 fn column_line() -> Line<DiscTables>
-    ensures { λ r. ⌜ code-of disc (r .numbers) ≡ columns ⌝ }
+    ensures { λ r. ⌜ code-of disc (r .numbers) ≡ disc-columns ⌝ }
 {
     match Line::new(disc_columns()) {
         Ok(line) => line,
@@ -92,19 +116,6 @@ fn judge_rows(code: &Line<DiscTables>, frame: &[u8], width: usize, marks: &mut [
     }
 }
 
-// Column j of rows of `width` bytes.
-fn take_column(line: &mut [u8], frame: &[u8], j: usize, width: usize)
-    requires whole { ⌜ length (now frame) ≡ length (now line) * width ⌝ }
-    requires low { ⌜ length (now line) ≤ 255 ⌝ }
-    requires within { ⌜ j < width ⌝ }
-    requires narrow { ⌜ width ≤ 255 ⌝ }
-    ensures { λ _. ⌜ now (line .exit) ≡ column width (length (now (line .entry))) (now (frame .entry)) j ⌝ }
-{
-    for i in 0..line.len() {
-        line[i] = frame[i * width + j];
-    }
-}
-
 // Marks the columns that are codewords, one for each byte of a row; `line` has room for one of them.
 fn judge_columns(code: &Line<DiscTables>, frame: &[u8], line: &mut [u8], marks: &mut [bool])
     requires whole { ⌜ length (now frame) ≡ length (now line) * length (now marks) ⌝ }
@@ -114,7 +125,7 @@ fn judge_columns(code: &Line<DiscTables>, frame: &[u8], line: &mut [u8], marks: 
 {
     let width = marks.len();
     for j in 0..width {
-        take_column(line, frame, j, width);
+        let _ = take_column(line, frame, width, j);
         marks[j] = is_word(code, line);
     }
 }

@@ -1,7 +1,10 @@
-// Counting and listing marked lines.
+// Counting marked lines, and finding those that are not.
+ghost use mathlib.Core.Bool.{Bool, false};
 ghost use mathlib.Core.Path.{_≡_};
+ghost use Prim.Native.Nat.{ℕ, _<_, _≤_};
+ghost use lib.ListN.{length, getD};
 ghost use Rattle.std.specs.shelf.Lists.{countBy};
-use std::fmt;
+ghost use Rattle.scanning.specs.Listing.{NextRun};
 
 // How many are marked.
 pub fn count(marks: &[bool]) -> usize
@@ -16,47 +19,33 @@ pub fn count(marks: &[bool]) -> usize
     n
 }
 
-// The numbers of those that are not marked, compactly: `3, 17-19`, or `none`.
-#[derive(Drop)]
-pub struct Unmarked<'a>(pub &'a [bool]);
-
-// One run of numbers, after a comma unless it is the first.
-fn show_run<W: fmt::Write>(
-    first: bool,
-    run: (usize, usize),
-    f: &mut fmt::Formatter<W>,
-) -> fmt::Result {
-    let (from, to) = run;
-    if !first {
-        write!(f, ", ")?;
+// The first place from `from` on that is marked, or not, as sought; the end where there is none.
+fn find(marks: &[bool], from: usize, sought: bool) -> usize
+    requires { ⌜ from ≤ length (now marks) ⌝ }
+    ensures low { λ r. ⌜ from ≤ r ⌝ }
+    ensures within { λ r. ⌜ r ≤ length (now (marks .entry)) ⌝ }
+    ensures before { λ r. ⌜ ((k : ℕ) → from ≤ k → k < r → getD (now (marks .entry)) k false ≡ sought → ⊥) ⌝ }
+    ensures found { λ r. ⌜ (r < length (now (marks .entry)) → getD (now (marks .entry)) r false ≡ sought) ⌝ }
+{
+    for i in from..marks.len() {
+        if marks[i] == sought {
+            return i;
+        }
     }
-    if from == to {
-        write!(f, "{from}")
-    } else {
-        write!(f, "{from}-{to}")
-    }
+    marks.len()
 }
 
-pub impl fmt::Display for Unmarked<'_> as UnmarkedDisplay {
-    fn fmt<W: fmt::Write>(&self, f: &mut fmt::Formatter<W>) -> fmt::Result {
-        let mut run: Option<(usize, usize)> = None;
-        let mut first = true;
-        for (i, mark) in self.0.iter().enumerate() {
-            if !*mark {
-                run = match run {
-                    None => Some((i, i)),
-                    Some((from, _)) => Some((from, i)),
-                };
-            } else if let Some(done) = run {
-                show_run(first, done, f)?;
-                first = false;
-                run = None;
-            }
-        }
-        match run {
-            Some(last) => show_run(first, last, f),
-            None if first => write!(f, "none"),
-            None => Ok(()),
-        }
+// The first run of lines that are not marked, from `from` on: its first and its last.
+pub fn next_run(marks: &[bool], from: usize) -> Option<(usize, usize)>
+    ensures { λ r. ⌜ NextRun (now (marks .entry)) from r ⌝ }
+{
+    if from >= marks.len() {
+        return None;
     }
+    let first = find(marks, from, false);
+    if first >= marks.len() {
+        return None;
+    }
+    let end = find(marks, first, true);
+    Some((first, end - 1))
 }

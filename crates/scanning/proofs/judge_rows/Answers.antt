@@ -9,7 +9,7 @@ use lib.ListN.{length, getD, take, drop}
 use lib.Seq.{getD-set-same, getD-set-other}
 use Rattle.fields.specs.Binary.{disc}
 use Rattle.codes.specs.Meaning.{Word}
-use Rattle.codes.proofs.Frames.{row-end}
+use Rattle.codes.proofs.Rows.{row-end}
 use Rattle.reed_solomon.specs.Lines.{code-of}
 use Rattle.scanning.specs.Judging.{Tells}
 use Rattle.scanning.proofs.judge_rows.Needs as need

@@ -11,26 +11,27 @@ use Rattle.algebra.specs.Sums.{sums}
 use Rattle.algebra.specs.Lines.{syndrome}
 use Rattle.codes.specs.Meaning.{Word, differ}
 use Rattle.reed_solomon.specs.Numbers.{Within}
+use Rattle.reed_solomon.specs.Disc.{disc-header}
 use Rattle.reed_solomon.specs.Words.{zeros}
 use Rattle.reed_solomon.proofs.Apart.{apart}
 use Rattle.coding.specs.Coding.{Codes, SameMessage}
 use Rattle.coding.proofs.Divided.{differ-tail}
-use Rattle.worked_cases.specs.Cases.{header, line}
+use Rattle.worked_cases.specs.Cases.{line}
 use Rattle.worked_cases.proofs.worked_cases.Needs as need
 
 header-within : Within 6 4 0 256
 header-within = record { some = lit≤ tt; less = lit< tt; short = lit≤ tt; fits = lit< tt; checks = lit≤ tt; first = lit≤ tt; two = lit≤ tt; bytes = lit≤ tt }
 
-plain : Word header (line 0 0 0 1 3 2)
+plain : Word disc-header (line 0 0 0 1 3 2)
 unfolding cap product sums syndrome zeros
 plain = record { long = refl; below = (lit< tt, (lit< tt, (lit< tt, (lit< tt, (lit< tt, (lit< tt, tt)))))); is = refl }
 
-message : Word header (line 0 0 1 0 7 6)
+message : Word disc-header (line 0 0 1 0 7 6)
 unfolding cap product sums syndrome zeros
 message = record { long = refl; below = (lit< tt, (lit< tt, (lit< tt, (lit< tt, (lit< tt, (lit< tt, tt)))))); is = refl }
 
 -- codewords with one message are one codeword
-only : (v w : List ℕ) → Word header v → Word header w → SameMessage 4 v w → v ≡ w
+only : (v w : List ℕ) → Word disc-header v → Word disc-header w → SameMessage 4 v w → v ≡ w
 only v w x y same =
     let lv = x .long in
     let lw = y .long in
