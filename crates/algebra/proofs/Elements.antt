@@ -7,7 +7,7 @@ use native.Mathlib.Decide.{ℕ-discrete, decLt}
 use native.Mathlib.Omega.{arith}
 use Rattle.fields.specs.Laws.{Meaning, FieldLaws}
 use Rattle.fields.specs.Laws.{power as raised}
-use Rattle.algebra.specs.Field.{Field}
+use Rattle.algebra.proofs.Field.{Field}
 use Rattle.algebra.proofs.Places.{power, power-none, power-more}
 
 abbrev pub Element : Meaning → Type 0

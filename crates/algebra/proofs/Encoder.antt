@@ -3,7 +3,7 @@ use mathlib.Core.Path.{_≡_, refl, sym, ap, ap₂, _∙_}
 use Prim.Native.Nat.{ℕ, zero, suc, _+_, _-_, _<_, _≤_}
 use native.Mathlib.Omega.{arith}
 use native.Mathlib.Decide.{ℕ-discrete}
-use Rattle.algebra.specs.Field.{Field}
+use Rattle.algebra.proofs.Field.{Field}
 use Rattle.algebra.proofs.Ring.{ring, same-of-sum}
 use Rattle.algebra.proofs.Places.{power, power-more, eval}
 use Rattle.algebra.proofs.Polynomials.{eval-more, eval-cong, eval-add, eval-scale, eval-up, up}

@@ -3,7 +3,7 @@ use mathlib.Core.Path.{_≡_, refl, sym, ap, ap₂, subst, _∙_}
 use Prim.Native.Nat.{ℕ, zero, suc, _+_, _-_, _*_, _<_, _≤_}
 use native.Mathlib.Nat.{add-zero, add-suc, zero-add, suc-add, zero-mul, suc-mul}
 use native.Mathlib.Omega.{arith}
-use Rattle.algebra.specs.Field.{Field}
+use Rattle.algebra.proofs.Field.{Field}
 use Rattle.algebra.proofs.Ring.{ring, cancel, mul-nonzero, zero-mul as nil-mul, one-mul}
 use Rattle.algebra.proofs.Sums.{sum, sum-cong}
 use Rattle.algebra.proofs.Places.{power, power-none, power-more, syndrome, Distinct}

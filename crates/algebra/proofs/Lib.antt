@@ -1,3 +1,4 @@
+pub mod Field
 pub mod Ring
 pub mod Sums
 pub mod Places

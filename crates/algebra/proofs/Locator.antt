@@ -5,7 +5,7 @@ use Prim.Native.Nat.{ℕ, zero, suc, _+_, _-_, _<_, _≤_}
 use native.Mathlib.Nat.{add-zero, add-suc}
 use native.Mathlib.Decide.{ℕ-discrete, decLe, decLt}
 use native.Mathlib.Omega.{arith}
-use Rattle.algebra.specs.Field.{Field}
+use Rattle.algebra.proofs.Field.{Field}
 use Rattle.algebra.proofs.Ring.{ring, cancel, mul-nonzero, mul-left-comm, zero-mul, mul-zero}
 use Rattle.algebra.proofs.Sums.{sum, sum-none, sum-more, sum-cong, sum-zero}
 use Rattle.algebra.proofs.Places.{power, power-none, power-more, eval, syndrome, Distinct, distance}

@@ -4,7 +4,7 @@ use mathlib.Core.Logic.{_⊎_, inl, inr}
 use Prim.Native.Nat.{ℕ, zero, suc, _+_, _-_, _<_, _≤_}
 use native.Mathlib.Decide.{ℕ-discrete, decLe, decLt}
 use native.Mathlib.Omega.{arith}
-use Rattle.algebra.specs.Field.{Field}
+use Rattle.algebra.proofs.Field.{Field}
 use Rattle.algebra.proofs.Ring.{ring, mul-nonzero, zero-mul, mul-zero}
 use Rattle.algebra.proofs.Product.{product, product-comm, product-assoc, product-zero, product-first, product-cong}
 

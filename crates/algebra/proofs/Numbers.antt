@@ -6,7 +6,7 @@ use native.Mathlib.Omega.{arith}
 use lib.ListN.{length, getD}
 use Rattle.fields.specs.Laws.{Meaning, FieldLaws}
 use Rattle.fields.specs.Laws.{power as raised}
-use Rattle.algebra.specs.Field.{Field}
+use Rattle.algebra.proofs.Field.{Field}
 use Rattle.algebra.specs.Sums.{sums}
 use Rattle.algebra.proofs.Sums.{sum, sum-none, sum-more, sum-cong}
 use Rattle.algebra.proofs.Places.{power}

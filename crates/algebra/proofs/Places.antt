@@ -4,7 +4,7 @@ use Prim.Native.Nat.{ℕ, zero, suc, _+_, _<_, _≤_}
 use native.Mathlib.Nat.{add-suc}
 use native.Mathlib.Decide.{ℕ-discrete}
 use native.Mathlib.Omega.{arith}
-use Rattle.algebra.specs.Field.{Field}
+use Rattle.algebra.proofs.Field.{Field}
 use Rattle.algebra.proofs.Ring.{ring, cancel, same-of-sum}
 use Rattle.algebra.proofs.Sums.{sum, sum-none, sum-more, sum-cong, sum-zero, sum-add, sum-scale, sum-swap, sum-front}
 

@@ -1,7 +1,7 @@
 -- Polynomials over a field: values.
 use mathlib.Core.Path.{_≡_, ap, _∙_}
 use Prim.Native.Nat.{ℕ, zero, suc, _<_}
-use Rattle.algebra.specs.Field.{Field}
+use Rattle.algebra.proofs.Field.{Field}
 use Rattle.algebra.proofs.Ring.{ring}
 use Rattle.algebra.proofs.Sums.{sum-none, sum-zero, sum-more, sum-cong, sum-add, sum-scale}
 use Rattle.algebra.proofs.Places.{power, eval, eval-front}

@@ -2,7 +2,7 @@
 use mathlib.Core.Path.{_≡_, refl, sym, ap, ap₂, _∙_}
 use Prim.Native.Nat.{ℕ, zero, suc, _+_, _<_, _≤_}
 use native.Mathlib.Omega.{arith}
-use Rattle.algebra.specs.Field.{Field}
+use Rattle.algebra.proofs.Field.{Field}
 
 module _ {F : Type 0} (K : Field F) where
   open Field K using (zero as 𝟘, one as 𝟙, add as _⊕_, mul as _⊗_, inv, mul-inv, one-zero)

@@ -6,7 +6,7 @@ use native.Mathlib.Nat.{add-suc}
 use native.Mathlib.Nat
 use native.Mathlib.Decide.{ℕ-discrete}
 use native.Mathlib.Omega.{arith}
-use Rattle.algebra.specs.Field.{Field}
+use Rattle.algebra.proofs.Field.{Field}
 use Rattle.algebra.proofs.Ring.{ring}
 
 module _ {F : Type 0} (K : Field F) where

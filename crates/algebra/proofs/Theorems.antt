@@ -3,23 +3,28 @@ use mathlib.Core.Path.{_≡_, refl, sym, ap, ap₂, subst, _∙_}
 use mathlib.Core.Bool.{Bool, true, false, cond}
 use mathlib.Core.List.{List, [], _∷_}
 use Prim.Native.Nat.{ℕ, zero, suc, _+_, _-_, _<_, _≤_}
+use native.Mathlib.Numerals.{add-one}
+use native.Mathlib.Decide.{decLt}
 use native.Mathlib.Omega.{arith}
 use lib.Dec.{eqb}
 use lib.ListN.{length, getD}
 use borrow.Author.Tests.{eq-eqb, eqb-true}
 use Rattle.fields.specs.Laws.{Meaning, FieldLaws}
 use Rattle.fields.specs.Laws.{power as raised}
-use Rattle.algebra.specs.Field.{Field}
-use Rattle.algebra.specs.Sums.{sums, value}
+use Rattle.algebra.proofs.Field.{Field}
+use Rattle.algebra.specs.Sums.{sums, value, coefficient}
 use Rattle.algebra.specs.Lines.{Elements, locator, syndrome}
-use Rattle.algebra.specs.Theorems.{Exchange-of-sums, Few-roots, Functional-over-syndromes, nonzero, Minimum-distance}
+use Rattle.algebra.specs.Theorems.{Exchange-of-sums, Few-roots, Functional-over-syndromes, nonzero, Minimum-distance, Generates, Shortest-recurrences}
 use Rattle.algebra.proofs.Sums.{sum, sum-cong, sum-swap}
 use Rattle.algebra.proofs.Places.{power, eval, functional, Distinct}
 use Rattle.algebra.proofs.Places.{syndrome as theirs}
+use Rattle.algebra.proofs.Product.{product, product-sum}
+use Rattle.algebra.proofs.Massey.{massey}
+use Rattle.algebra.proofs.Massey.{Generates as Generates-sequence}
 use Rattle.algebra.proofs.Roots.{no-more-roots}
 use Rattle.algebra.proofs.Weights.{weight}
 use Rattle.algebra.proofs.FirstRoot.{from, from-is, syndrome-from, light-from, weight-front-zero, weight-front-more}
-use Rattle.algebra.proofs.Elements.{Element, el-zero, el-mul, el-power, el-same, el-none}
+use Rattle.algebra.proofs.Elements.{Element, el-zero, el-mul, el-power, el-same, el-none, el-some}
 use Rattle.algebra.proofs.Numbers.{K, ⟨_⟩, at, at-is, el-sums, sums-below}
 use Rattle.algebra.proofs.Lines.{place, place-number, el-syndrome, places-apart, places-nonzero}
 
@@ -85,6 +90,12 @@ functional-over-syndromes m t line g b c =
         ∙ sym (from-is (K m t) b (place m t (length line)) (at m t line) p))
         (el-value m t g c _ ∙ ap (eval (K m t) c (at m t g)) (sym X))
 
+-- past its end a list reads 0
+getD-past : (xs : List ℕ) (i : ℕ) → length xs ≤ i → getD xs i 0 ≡ 0
+getD-past [] i l = refl
+getD-past (x ∷ xs) zero l = absurd (omega arith)
+getD-past (x ∷ xs) (suc i) l = getD-past xs i (omega arith)
+
 -- the weight of a line in the theory is at most the number of its nonzero symbols
 weight-nonzero : (m : Meaning) (t : FieldLaws m) (line : List ℕ) → weight (K m t) (length line) (at m t line) ≤ nonzero line
 weight-nonzero m t [] = unfold weight in omega arith
@@ -110,3 +121,30 @@ minimum-distance m t line b c els fits few zeros p l =
     (places-apart m t (length line) fits) (places-nonzero m t (length line) fits)
     (λ k lk. sym (el-syndrome m t line (b + k)) ∙ ap (⟨_⟩ m t) (zeros k lk) ∙ el-zero m t)
     (let h = weight-nonzero m t line in omega arith) p l)
+
+module _ (m : Meaning) (t : FieldLaws m) where
+  -- coefficients of a product, in the theory
+  pub el-coefficient : (p s : List ℕ) (k : ℕ) → ⟨_⟩ m t (coefficient m p s k) ≡ product (K m t) (at m t p) (at m t s) k
+  unfolding coefficient
+  el-coefficient p s k =
+      el-sums m t _ (suc k)
+      ∙ sum-cong (K m t) (suc k) _ _ (λ i l. el-mul m t _ _ ∙ ap₂ (K m t .mul) (sym (at-is m t p i)) (sym (at-is m t s (k - i))))
+      ∙ sym (product-sum (K m t) (at m t p) (at m t s) k)
+
+  generates : (s p : List ℕ) (d r : ℕ) → Generates m s p d r → Generates-sequence (K m t) (at m t s) (at m t p) d r
+  generates s p d r g = record {
+    known = record {
+      degree = λ i l. at-is m t p i ∙ ap (⟨_⟩ m t) (g .degree i l) ∙ el-zero m t;
+      zeros = λ k l h. sym (el-coefficient p s k) ∙ ap (⟨_⟩ m t) (g .zeros k l h) ∙ el-zero m t;
+    };
+    starts = λ e. elim (decLt 0 (length p)) [
+      | yes l ↦ g .starts (el-none m t (getD p 0 0) (g .elements 0 l) (sym (at-is m t p 0) ∙ e))
+      | no nl ↦ g .starts (getD-past p 0 (omega arith))
+    ];
+  }
+
+pub shortest-recurrences : Shortest-recurrences
+shortest-recurrences m t s p p′ d d′ r g fails h =
+    massey (K m t) (at m t s) (at m t p) (at m t p′) d d′ r (generates m t s p d r g)
+    (λ e. fails (el-none m t (coefficient m p s r) (unfold coefficient in sums-below m t _ (suc r)) (el-coefficient m t p s r ∙ e)))
+    (subst (λ (n : ℕ). Generates-sequence (K m t) (at m t s) (at m t p′) d′ n) (add-one r) (generates m t s p′ d′ (r + 1) h))

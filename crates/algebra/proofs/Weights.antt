@@ -3,7 +3,7 @@ use mathlib.Core.Path.{_≡_, refl, sym, ap, ap₂, _∙_}
 use Prim.Native.Nat.{ℕ, zero, suc, _+_, _<_, _≤_}
 use native.Mathlib.Decide.{ℕ-discrete}
 use native.Mathlib.Omega.{arith}
-use Rattle.algebra.specs.Field.{Field}
+use Rattle.algebra.proofs.Field.{Field}
 use Rattle.algebra.proofs.Ring.{ring, zero-mul}
 use Rattle.algebra.proofs.Sums.{sum, sum-none, sum-more, sum-cong, sum-add, sum-front}
 use Rattle.algebra.proofs.Places.{power, syndrome, Distinct, distance}

@@ -1,4 +1,3 @@
-pub mod Field
 pub mod Sums
 pub mod Lines
 pub mod Theorems

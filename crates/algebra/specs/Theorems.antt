@@ -6,7 +6,7 @@ use Prim.Native.Nat.{ℕ, _+_, _<_, _≤_}
 use lib.Dec.{eqb}
 use lib.ListN.{length, getD}
 use Rattle.fields.specs.Laws.{Meaning, FieldLaws, power}
-use Rattle.algebra.specs.Sums.{sums, value}
+use Rattle.algebra.specs.Sums.{sums, value, coefficient}
 use Rattle.algebra.specs.Lines.{Elements, locator, syndrome}
 
 -- two sums may be taken in either order
@@ -43,3 +43,16 @@ Minimum-distance =
     (m : Meaning) → FieldLaws m → (line : List ℕ) (b c : ℕ)
     → Elements m line → length line < m .q → nonzero line ≤ c → ((i : ℕ) → i < c → syndrome m line (b + i) ≡ 0)
     → (p : ℕ) → p < length line → getD line p 0 ≡ 0
+
+-- p, of degree at most d, is a recurrence of the first r terms of s: from term d on, the product of p and s is 0
+pub record Generates (m : Meaning) (s p : List ℕ) (d r : ℕ) : Type 0 where
+  pub elements : Elements m p
+  pub starts : getD p 0 0 ≡ 0 → ⊥
+  pub degree : (i : ℕ) → d < i → getD p i 0 ≡ 0
+  pub zeros : (k : ℕ) → d ≤ k → k < r → coefficient m p s k ≡ 0
+
+-- where a recurrence of r terms fails at the next one, every recurrence of that one too is so long that both have more than r
+abbrev pub Shortest-recurrences : Type 0
+Shortest-recurrences =
+    (m : Meaning) → FieldLaws m → (s p p′ : List ℕ) (d d′ r : ℕ)
+    → Generates m s p d r → (coefficient m p s r ≡ 0 → ⊥) → Generates m s p′ d′ (r + 1) → r < d + d′

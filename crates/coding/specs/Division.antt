@@ -1,15 +1,12 @@
--- The division by the generator polynomial, over the theory's field.
+-- The division by the generator polynomial.
 use mathlib.Core.Path.{_≡_}
 use mathlib.Core.Bool.{true}
 use mathlib.Core.List.{List}
 use Prim.Native.Nat.{ℕ, zero, suc, _+_, _-_, _<_}
 use lib.ListN.{length, getD}
-use Rattle.fields.specs.Laws.{Meaning, FieldLaws}
+use Rattle.fields.specs.Laws.{Meaning, power}
+use Rattle.algebra.specs.Sums.{sums, value}
 use Rattle.algebra.specs.Lines.{syndrome}
-use Rattle.algebra.proofs.Sums.{sum}
-use Rattle.algebra.proofs.Places.{power, eval}
-use Rattle.algebra.proofs.Encoder.{generator}
-use Rattle.algebra.proofs.Numbers.{K, ⟨_⟩, at}
 use Rattle.codes.specs.Meaning.{Below}
 use Rattle.reed_solomon.specs.Words.{zeros}
 use Rattle.coding.specs.Coding.{SameMessage}
@@ -29,20 +26,21 @@ Shifts m before f g after =
     (k : ℕ) → k < length before → getD after k 0 ≡ m .add (shifted before k) (m .mul f (getD g k 0))
 
 -- the root j of the generator polynomial: α^(b+j)
-abbrev pub root : (m : Meaning) → FieldLaws m → (b j : ℕ) → (n : ℕ) × (n < m .q)
-root m t b j = power (K m t) (⟨_⟩ m t (m .g)) (b + j)
+abbrev pub root : Meaning → (b j : ℕ) → ℕ
+root m b j = power (m .mul) (m .g) (b + j)
 
--- g has the coefficients of the product of x minus each of the first n roots
-abbrev pub Generator : Meaning → ℕ → List ℕ → ℕ → Type 0
-Generator m b g n =
-    (t : FieldLaws m) (k : ℕ) → k < length g → ⟨_⟩ m t (getD g k 0) ≡ generator (K m t) (root m t b) n k
+-- g is a polynomial of one degree less than it has places, with leading coefficient 1, that is 0 at as many roots
+pub record Generator (m : Meaning) (b : ℕ) (g : List ℕ) : Type 0 where
+  pub lead : getD g (length g - 1) 0 ≡ 1
+  pub zero : (j : ℕ) → j < length g - 1 → value m g (length g) (root m b j) ≡ 0
 
--- at each root z the register r, times z^(k - j), is the sum of the first j symbols of a line of n, each times its power of z
-abbrev pub Fed : Meaning → (b n k : ℕ) → (line r : List ℕ) → ℕ → Type 0
-Fed m b n k line r j =
-    (t : FieldLaws m) (i : ℕ) → i < length r
-    → K m t .mul (eval (K m t) (length r) (at m t r) (root m t b i)) (power (K m t) (root m t b i) (k - j))
-    ≡ sum (K m t) j (λ p. K m t .mul (at m t line p) (power (K m t) (root m t b i) (n - 1 - p)))
+-- at each root z the register r has the value of the message: the sum of its symbols, each times the power of z of its
+-- place in a line with the register behind it
+abbrev pub Remains : Meaning → (b : ℕ) (message r : List ℕ) → Type 0
+Remains m b message r =
+    (i : ℕ) → i < length r
+    → value m r (length r) (root m b i)
+    ≡ sums m (λ p. m .mul (getD message p 0) (power (m .mul) (root m b i) (length message + length r - 1 - p))) (length message)
 
 -- the message stays, and the last c symbols are the only ones with which c syndromes from b on are 0
 pub record Completed (m : Meaning) (b c : ℕ) (before after : List ℕ) : Type 0 where

@@ -32,7 +32,7 @@ fn complete<F: Field>(line: &mut [u8], checks: usize, b: u8)
     let mut register_room = room();
     let r = &mut register_room[..checks];
     let k = line.len() - checks;
-    divide::<F>(r, g, line, k, b);
+    divide::<F>(r, g, &line[0..k]);
     append(line, k, r);
 }
 

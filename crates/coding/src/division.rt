@@ -4,7 +4,7 @@ ghost use mathlib.Core.Path.{_≡_};
 ghost use Prim.Native.Nat.{ℕ, _+_, _-_, _<_, _≤_};
 ghost use lib.ListN.{length, getD};
 ghost use Rattle.algebra.specs.Lines.{Elements};
-ghost use Rattle.coding.specs.Division.{Zero, Shifts, Generator, Fed};
+ghost use Rattle.coding.specs.Division.{Zero, Shifts, Generator, Remains};
 use fields::Field;
 use reed_solomon::power;
 
@@ -35,7 +35,7 @@ pub fn generator<F: Field>(g: &mut [u8], b: u8)
     requires some { ⌜ 1 ≤ length (now g) ⌝ }
     requires zero { ⌜ Zero (now g) ⌝ }
     ensures elements { λ _. ⌜ Elements (F·Field .meaning) (now (g .exit)) ⌝ }
-    ensures is { λ _. ⌜ Generator (F·Field .meaning) b (now (g .exit)) (length (now (g .exit)) - 1) ⌝ }
+    ensures is { λ _. ⌜ Generator (F·Field .meaning) b (now (g .exit)) ⌝ }
 {
     g[0] = 1;
     let alpha = F::alpha();
@@ -74,19 +74,17 @@ fn feed<F: Field>(r: &mut [u8], g: &[u8], symbol: u8)
     shift::<F>(r, g, F::sum(symbol, highest));
 }
 
-// The first k symbols of a line into the register, which is empty.
-pub fn divide<F: Field>(r: &mut [u8], g: &[u8], line: &[u8], k: usize, b: u8)
+// Divides a message, the highest coefficient first, by g: what is left stands in the register, which is empty before.
+pub fn divide<F: Field>(r: &mut [u8], g: &[u8], message: &[u8])
     requires some { ⌜ 1 ≤ length (now r) ⌝ }
     requires empty { ⌜ Zero (now r) ⌝ }
     requires long { ⌜ length (now g) ≡ length (now r) + 1 ⌝ }
-    requires whole { ⌜ length (now line) ≡ k + length (now r) ⌝ }
-    requires symbols { ⌜ Elements (F·Field .meaning) (now line) ⌝ }
-    requires divisor { ⌜ Generator (F·Field .meaning) b (now g) (length (now g) - 1) ⌝ }
+    requires symbols { ⌜ Elements (F·Field .meaning) (now message) ⌝ }
     ensures elements { λ _. ⌜ Elements (F·Field .meaning) (now (r .exit)) ⌝ }
-    ensures is { λ _. ⌜ Fed (F·Field .meaning) b (length (now (line .entry))) k (now (line .entry)) (now (r .exit)) k ⌝ }
+    ensures remains { λ _. ⌜ ((b : ℕ) → Generator (F·Field .meaning) b (now (g .entry)) → Remains (F·Field .meaning) b (now (message .entry)) (now (r .exit))) ⌝ }
 {
-    for j in 0..k {
-        feed::<F>(r, g, line[j]);
+    for symbol in message {
+        feed::<F>(r, g, *symbol);
     }
 }
 

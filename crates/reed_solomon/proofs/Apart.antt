@@ -9,7 +9,7 @@ use Rattle.std.proofs.shelf.Lists.{ext-getD}
 use lib.Dec.{eqb}
 use borrow.Author.Tests.{eq-eqb, eqb-true}
 use Rattle.fields.specs.Laws.{Meaning, FieldLaws}
-use Rattle.algebra.specs.Field.{Field}
+use Rattle.algebra.proofs.Field.{Field}
 use Rattle.algebra.proofs.Ring.{same-of-sum}
 use Rattle.algebra.proofs.Weights.{weight, sums-of-error}
 use Rattle.algebra.proofs.FirstRoot.{light-from}

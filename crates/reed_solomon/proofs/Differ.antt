@@ -8,7 +8,7 @@ use lib.ListN.{length, getD}
 use lib.Dec.{eqb}
 use borrow.Author.Tests.{eq-eqb, eqb-true}
 use Rattle.fields.specs.Laws.{Meaning, FieldLaws}
-use Rattle.algebra.specs.Field.{Field}
+use Rattle.algebra.proofs.Field.{Field}
 use Rattle.algebra.proofs.Ring.{same-of-sum}
 use Rattle.algebra.proofs.Weights.{weight}
 use Rattle.algebra.proofs.FirstRoot.{weight-front-zero, weight-front-more}

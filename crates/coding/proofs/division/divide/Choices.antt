@@ -1,8 +1,12 @@
-use mathlib.Core.Path.{_≡_}
+use Prim.Native.Nat.{ℕ, _+_}
 use lib.ListN.{length}
 use Rattle.algebra.specs.Lines.{Elements}
-use Rattle.coding.specs.Division.{Fed}
+use Rattle.coding.specs.Division.{Generator}
+use Rattle.coding.proofs.Register.{Fed}
 use Rattle.coding.proofs.division.divide.Given as given
 
-abbrev pub Inv-loop-j : given.InvT-loop-j
-Inv-loop-j g l = Elements (g .F·Field .meaning) (l .r) × Fed (g .F·Field .meaning) (l .b) (length (l .line)) (l .k) (l .line) (l .r) (l .j)
+abbrev pub Inv-loop-symbol : given.InvT-loop-symbol
+Inv-loop-symbol g l =
+    let m = g .F·Field .meaning in
+    Elements m (l .r)
+    × ((b : ℕ) → Generator m b (l .g) → Fed m b (length (l .message) + length (l .r)) (length (l .message)) (l .message) (l .r) (l .symbol-index))

@@ -3,7 +3,7 @@ use Prim.Native.Nat.{ℕ, _+_, _<_, _≤_}
 use lib.ListN.{length, getD}
 use Rattle.fields.specs.Laws.{power}
 use Rattle.algebra.specs.Lines.{Elements}
-use Rattle.coding.specs.Division.{Generator}
+use Rattle.coding.proofs.Register.{Multiplied}
 use Rattle.coding.proofs.division.generator.Given as given
 
 abbrev pub Inv-loop-i : given.InvT-loop-i
@@ -11,4 +11,4 @@ Inv-loop-i g l =
     let m = g .F·Field .meaning in
     Elements m (l .g)
     × (l .z ≡ power (m .mul) (m .g) (l .b + l .-i))
-    × Generator m (l .b) (l .g) (l .-i)
+    × Multiplied m (l .b) (l .g) (l .-i)
