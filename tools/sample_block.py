@@ -89,6 +89,52 @@ def scratch(frame):
         frame[150][60 + k] ^= symbol
 
 
+def solve(matrix, right):
+    """Gaussian elimination; None where the matrix is singular."""
+    n = len(matrix)
+    rows = [list(r) + [x] for r, x in zip(matrix, right)]
+    for c in range(n):
+        pivot = next((r for r in range(c, n) if rows[r][c]), None)
+        if pivot is None:
+            return None
+        rows[c], rows[pivot] = rows[pivot], rows[c]
+        inverse = POWER[-LOG[rows[c][c]] % 255]
+        rows[c] = [times(x, inverse) for x in rows[c]]
+        for r in range(n):
+            if r != c and rows[r][c]:
+                f = rows[r][c]
+                rows[r] = [x ^ times(f, y) for x, y in zip(rows[r], rows[c])]
+    return [r[n] for r in rows]
+
+
+def wrong_places(line, checks):
+    """How many places of a line are wrong, by Peterson's method: linear systems for the locator and the values. None: stuck."""
+    s = [syndrome(line, k) for k in range(checks)]
+    if not any(s):
+        return 0
+    for v in range(checks // 2, 0, -1):
+        locator = solve([[s[i + j] for j in range(v)] for i in range(v)], [s[i + v] for i in range(v)])
+        if locator is None:
+            continue
+        places = []
+        for p in range(len(line)):
+            x = POWER[(len(line) - 1 - p) % 255]
+            value = POWER[LOG[x] * v % 255]
+            for j in range(v):
+                value ^= times(locator[j], POWER[LOG[x] * j % 255])
+            if value == 0:
+                places.append(p)
+        if len(places) != v:
+            return None
+        xs = [(len(line) - 1 - p) % 255 for p in places]
+        values = solve([[POWER[x * k % 255] for x in xs] for k in range(v)], s[:v])
+        mended = list(line)
+        for p, e in zip(places, values):
+            mended[p] ^= e
+        return None if any(syndrome(mended, k) for k in range(checks)) else v
+    return None
+
+
 def runs(numbers):
     out = []
     for n in numbers:
@@ -106,6 +152,9 @@ def report(frame):
     print(f"rows: {ROWS - len(bad_rows)} of {ROWS} are codewords; not: {runs(bad_rows)}")
     print(f"columns: {COLUMNS - len(bad_columns)} of {COLUMNS} are codewords; not: {runs(bad_columns)}")
     print(f"work: {ROWS * COLUMNS} symbols through 10 syndromes by rows and through 16 by columns")
+    wrong = [wrong_places(row, 10) for row in frame]
+    mended = [w for w in wrong if w]
+    print(f"rows decoded: {wrong.count(0)} were codewords, {len(mended)} mended at {sum(mended)} bytes, {wrong.count(None)} stuck")
 
 
 def main():

@@ -1,3 +1,5 @@
 pub mod Rows
 pub mod Places
 pub mod Views
+pub mod Lines
+pub mod Nearest

@@ -39,7 +39,7 @@ fn complete<F: Field>(line: &mut [u8], checks: usize, b: u8)
 // Codes lines over the disc field.
 #[derive(Drop)]
 pub struct Coder<F: DiscField> {
-    numbers: CodeNumbers,
+    pub numbers: CodeNumbers,
     field: PhantomData<F>,
     ghost disc: { numbers .order ≡ 256 },
 }
@@ -56,13 +56,6 @@ impl<F: DiscField> Coder<F> {
             numbers,
             field: PhantomData,
         })
-    }
-
-    // The code numbers that the coder was made from.
-    pub fn numbers(&self) -> CodeNumbers
-        ensures { λ r. ⌜ r ≡ now (self .entry) .numbers ⌝ }
-    {
-        self.numbers
     }
 
     // The first K symbols stay, and the others become the only ones that make a codeword. Another length is refused.

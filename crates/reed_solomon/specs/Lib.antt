@@ -3,3 +3,4 @@ pub mod Words
 pub mod Disc
 pub mod Lines
 pub mod Theorems
+pub mod Received

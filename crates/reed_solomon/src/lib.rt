@@ -5,6 +5,7 @@ mod disc;
 mod limits;
 mod line;
 mod numbers;
+mod received;
 mod syndromes;
 
 pub use crate::disc::disc_columns;
@@ -12,7 +13,9 @@ pub use crate::disc::disc_header;
 pub use crate::disc::disc_rows;
 pub use crate::limits::Refusal;
 pub use crate::line::Line;
+pub use crate::line::readable;
 pub use crate::numbers::CodeNumbers;
+pub use crate::syndromes::locators;
 pub use crate::syndromes::power;
 
 // Two different codewords differ at more than N - K places.

@@ -29,7 +29,7 @@ fn below(line: &[u8], q: u16) -> bool
 
 // Is every byte an element of the field, and is the field the one that the code numbers are for?
 // A byte that is no element counts as 0 in the field, so that the syndromes alone would not tell.
-fn readable<F: Field>(line: &[u8], q: u16) -> bool
+pub fn readable<F: Field>(line: &[u8], q: u16) -> bool
     ensures yes { λ r. ⌜ (r ≡ true → (q ≡ F·Field .meaning .q) × Elements (F·Field .meaning) (now (line .entry))) ⌝ }
     ensures no { λ r. ⌜ (r ≡ false → q ≡ F·Field .meaning .q → Elements (F·Field .meaning) (now (line .entry)) → ⊥) ⌝ }
 {
@@ -37,7 +37,7 @@ fn readable<F: Field>(line: &[u8], q: u16) -> bool
 }
 
 // Room for the bytes of a line.
-fn line_room() -> [u8; 255]
+pub(crate) fn line_room() -> [u8; 255]
     ensures { λ r. ⌜ length r ≡ 255 ⌝ }
 {
     [0; 255]
@@ -67,7 +67,7 @@ fn vanishes<F: Field>(line: &[u8], checks: usize, b: u8) -> bool
 // A Reed–Solomon line over the field F.
 #[derive(Drop)]
 pub struct Line<F: Field> {
-    numbers: CodeNumbers,
+    pub(crate) numbers: CodeNumbers,
     field: PhantomData<F>,
 }
 

@@ -56,7 +56,7 @@ fn enter<F: Field>(s: &mut [u8], y: u8, x: u8)
 }
 
 // As many syndromes as s has room for, from S_b on: the byte at place p adds byte × X_p^i to S_i.
-fn syndromes<F: Field>(line: &[u8], table: &[u8], b: u8, s: &mut [u8])
+pub(crate) fn syndromes<F: Field>(line: &[u8], table: &[u8], b: u8, s: &mut [u8])
     requires long { ⌜ length (now table) ≡ length (now line) ⌝ }
     requires located { ⌜ Locators (F·Field .meaning) (now table) ⌝ }
     ensures { λ _. ⌜ Syndromes (F·Field .meaning) (now (line .entry)) b (now (s .exit)) ⌝ }

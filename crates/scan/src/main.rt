@@ -1,14 +1,24 @@
-// Reads a block of a disc from standard input, judges every row and every column of it, and prints the work done.
+// Reads a block of a disc from standard input, judges every row and every column of it, decodes each row once, and
+// prints the work done.
 mod listing;
 
 use crate::listing::Unmarked;
 use crate::listing::UnmarkedDisplay;
+use decoder::ReedSolomonLine;
+use decoder::column_line;
+use decoder::row_line;
+use fields::DiscTables;
+use fields::DiscTablesField;
+use fields::DiscTablesIsDisc;
+use jobs::Job;
 use scanning::COLUMNS;
 use scanning::Judgement;
 use scanning::ROWS;
 use scanning::count;
 use scanning::judge;
 use scanning::judging_work;
+use solving::BerlekampMassey;
+use solving::BerlekampMasseySolver;
 use std::error::AnyError;
 use std::io::Read;
 
@@ -39,11 +49,38 @@ fn show(rt: &LibcRuntime, judgement: &Judgement) -> Result<(), AnyError> {
     Ok(())
 }
 
+// Decodes each row by itself once, and prints what that came to.
+fn mend_rows(rt: &LibcRuntime, block: &mut [u8], codewords: usize) -> Result<(), AnyError> {
+    let heap = rt.alloc();
+    let Ok(rows) = row_line::<DiscTables, BerlekampMassey>(heap) else {
+        return Err("no memory for the row code".into());
+    };
+    let Ok(columns) = column_line::<DiscTables, BerlekampMassey>(heap) else {
+        return Err("no memory for the column code".into());
+    };
+    let mut job = Job::new(rows, columns);
+    if let Ok(pass) = job.row_pass(block) {
+        let stuck = pass.stuck;
+        let bytes = pass.changes;
+        let mended = pass.decodings
+            .saturating_sub(codewords as u64)
+            .saturating_sub(stuck);
+        println!(
+            rt,
+            "rows decoded: {codewords} were codewords, {mended} mended at {bytes} bytes, {stuck} stuck"
+        )?;
+    }
+    Ok(())
+}
+
 fn run(rt: &LibcRuntime) -> Result<(), AnyError> {
     let mut block = Vec::new(rt.alloc());
     let _ = rt.stdin().take(ENOUGH).read_to_end(&mut block)?;
     match judge(&block) {
-        Ok(judgement) => show(rt, &judgement),
+        Ok(judgement) => {
+            show(rt, &judgement)?;
+            mend_rows(rt, &mut block, count(&judgement.rows))
+        }
         Err(why) => {
             let number = why.number();
             println!(

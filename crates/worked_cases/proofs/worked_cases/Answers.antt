@@ -10,13 +10,17 @@ use Rattle.fields.proofs.Fields.{disc-laws}
 use Rattle.algebra.specs.Sums.{sums}
 use Rattle.algebra.specs.Lines.{syndrome}
 use Rattle.codes.specs.Meaning.{Word, differ}
+use Rattle.codes.specs.Answers.{Mends}
+use Rattle.codes.proofs.Nearest.{beyond}
 use Rattle.reed_solomon.specs.Numbers.{Within}
-use Rattle.reed_solomon.specs.Disc.{disc-header}
 use Rattle.reed_solomon.specs.Words.{zeros}
 use Rattle.reed_solomon.proofs.Apart.{apart}
 use Rattle.coding.specs.Coding.{Codes, SameMessage}
 use Rattle.coding.proofs.Divided.{differ-tail}
+use Rattle.decoder.proofs.Lawful.{lawful}
+use Rattle.reed_solomon.specs.Disc.{disc-header}
 use Rattle.worked_cases.specs.Cases.{line}
+use Rattle.worked_cases.proofs.Header.{first-stuck, second-stuck}
 use Rattle.worked_cases.proofs.worked_cases.Needs as need
 
 header-within : Within 6 4 0 256
@@ -45,6 +49,15 @@ stays a b c d (suc (suc zero)) l = refl
 stays a b c d (suc (suc (suc zero))) l = refl
 stays a b c d (suc (suc (suc (suc p)))) l = absurd (omega arith)
 
+mended : Mends disc-header (line 0 0 0 1 3 18) (line 0 0 0 1 3 2) 1
+mended = record {
+  long = refl;
+  below = (lit< tt, (lit< tt, (lit< tt, (lit< tt, (lit< tt, (lit< tt, tt))))));
+  word = plain;
+  changes = refl;
+  near = lit≤ tt;
+}
+
 pub returns : need.returns
 unfolding cap product
 returns c = record {
@@ -57,4 +70,12 @@ returns c = record {
     word = message;
     only = λ v w same. only v (line 0 0 1 0 7 6) w message (λ p l. same p l ∙ sym (stays a b 7 6 p l));
   };
+  mended = mended;
+  stuck-by-caution = record {
+    long = refl;
+    same = refl;
+    far = beyond disc-header (lawful disc disc-laws 6 4 0 256 header-within) 0 (line 0 0 0 1 3 18) (line 0 0 0 1 3 2) 1 mended (lit< tt);
+  };
+  stuck = first-stuck;
+  stuck-outside = second-stuck;
 }

@@ -1,0 +1,12 @@
+pub mod Records
+pub mod Bounds
+pub mod Questions
+pub mod Lines
+pub mod Passes
+pub mod Calls
+pub mod Reader
+pub mod Promise
+pub mod Laws
+pub mod Copies
+pub mod Lists
+pub mod FirstRows

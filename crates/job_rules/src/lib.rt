@@ -1,0 +1,30 @@
+// What a job is made of: lines with their records, counts, calls and answers. The rules stand in specs/.
+mod answers;
+mod calls;
+mod laws;
+mod records;
+
+pub use answers::Answer;
+pub use answers::Effort;
+pub use answers::Ending;
+pub use answers::PassAnswer;
+pub use answers::Refusal;
+pub use answers::Report;
+pub use answers::RunAnswer;
+pub use calls::Call;
+pub use calls::Entry;
+pub use laws::changes_are_tallies;
+pub use laws::counts_stay_low;
+pub use laws::first_no_refuses;
+pub use laws::first_row_pass_restores;
+pub use laws::promise_leaves_no_choice;
+pub use laws::reader_decodes_all;
+pub use laws::run_endings;
+pub use laws::stuck_counts;
+pub use laws::tallies_grow;
+pub use laws::unchanged_means;
+pub use records::Counts;
+pub use records::Kind;
+pub use records::Lines;
+pub use records::Record;
+pub use records::Standing;

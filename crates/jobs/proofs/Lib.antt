@@ -1,0 +1,5 @@
+pub mod Passing
+pub mod Running
+pub mod Delivering
+pub mod Reading
+pub mod Performing

@@ -1,0 +1,5 @@
+pub mod Opening
+pub mod Visiting
+pub mod Turning
+pub mod Turns
+pub mod Redelivering

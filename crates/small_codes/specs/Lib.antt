@@ -1,0 +1,2 @@
+pub mod Repetition
+pub mod Wordless

@@ -1,0 +1,3 @@
+pub mod Sequences
+pub mod Solving
+pub mod Steps
