@@ -24,6 +24,7 @@ pub record Made {L : Type 0} (m : L → Meaning) (code : L) (s : ℕ) (line : Ca
 
 -- a larger reach is refused, and the code handed back
 pub record Beyond {L : Type 0} (m : L → Meaning) (code : L) (s : ℕ) (back : Refused L) : Type 0 where
+  pub is : reach-number back ≡ 7
   pub same : back ≡ Reach code
   pub over : m code .reach < s
 

@@ -21,7 +21,7 @@ pub enum Refused<L> {
 }
 
 impl<L> Refused<L> {
-    // The refusal's number, as documented.
+    // The refusal's number.
     pub fn number(&self) -> u8
         ensures { λ r. ⌜ r ≡ reach-number (now (self .entry)) ⌝ }
     {

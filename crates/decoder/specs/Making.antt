@@ -19,5 +19,5 @@ number-of (Memory c) = None
 -- No table is allocated today, so memory is never wanting
 abbrev pub Makes : {X : Type 0} → Meaning → CodeNumbers → (numbers : X → CodeNumbers) → (count : X → ℕ) → Result X Unmade → Type 0
 Makes m c numbers count (Ok x) = (c .order ≡ m .q) × (numbers x ≡ c) × (count x ≡ 0)
-Makes m c numbers count (Err (OtherField back)) = (c .order ≡ m .q → ⊥) × (back ≡ c)
+Makes m c numbers count (Err (OtherField back)) = (number-of (OtherField back) ≡ Some 6) × (c .order ≡ m .q → ⊥) × (back ≡ c)
 Makes m c numbers count (Err (Memory back)) = ⊥

@@ -32,6 +32,7 @@ impl Guard<'_> {
     pub fn close<F: Field>(&mut self, code: &Line<F>) -> bool
         ensures lender { λ _. ⌜ name (now (self .exit) .line) ≡ name (now (self .entry) .line) ⌝ }
         ensures line { λ _. ⌜ bytes (now (self .exit)) ≡ bytes (now (self .entry)) ⌝ }
+        ensures count { λ _. ⌜ now (self .exit) .count ≡ now (self .entry) .count ⌝ }
         ensures passed { λ r. ⌜ now (self .exit) .passed ≡ r ⌝ }
         ensures sound { λ r. ⌜ (r ≡ true → Word (code-of (F·Field .meaning) (now (code .entry) .numbers)) (bytes (now (self .entry)))) ⌝ }
         ensures complete { λ r. ⌜ (Word (code-of (F·Field .meaning) (now (code .entry) .numbers)) (bytes (now (self .entry))) → r ≡ true) ⌝ }

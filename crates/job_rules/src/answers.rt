@@ -54,7 +54,7 @@ pub enum Refusal {
 }
 
 impl Refusal {
-    // The refusal's number, as documented.
+    // The refusal's number.
     pub fn number(&self) -> u8
         ensures { λ r. ⌜ r ≡ number (now (self .entry)) ⌝ }
     {

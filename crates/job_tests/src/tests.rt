@@ -18,18 +18,24 @@ fn waiting<'a>(call: Call<'a>) -> Entry<'a> {
 
 // Replays the list over triple repetition both ways; is the frame called whole?
 fn whole_over_triples(frame: &mut [u8], list: &mut [Entry]) -> bool {
-    match (Repetition::new(3), Repetition::new(3)) {
-        (Some(rows), Some(columns)) => replay(rows, columns, frame, list).is_whole(),
-        _ => false,
-    }
+    let Some(rows) = Repetition::new(3) else {
+        return false;
+    };
+    let Some(columns) = Repetition::new(3) else {
+        return false;
+    };
+    replay(rows, columns, frame, list).is_whole()
 }
 
 // Replays the list over rows of one byte, all codewords, and columns of three bytes, none a codeword; is the frame called whole?
 fn whole_over_wordless(frame: &mut [u8], list: &mut [Entry]) -> bool {
-    match (Repetition::new(1), Wordless::new(3)) {
-        (Some(rows), Some(columns)) => replay(rows, columns, frame, list).is_whole(),
-        _ => true,
-    }
+    let Some(rows) = Repetition::new(1) else {
+        return true;
+    };
+    let Some(columns) = Wordless::new(3) else {
+        return true;
+    };
+    replay(rows, columns, frame, list).is_whole()
 }
 
 // The number of a refusal; 0 for a call that was taken.

@@ -82,7 +82,7 @@ fn all_zero(s: &[u8]) -> bool
 }
 
 // Are the syndromes all 0, as many as s has room for, from S_b on? They are left in s.
-pub fn vanish<F: Field>(line: &[u8], table: &[u8], b: u8, s: &mut [u8]) -> bool
+pub(crate) fn vanish<F: Field>(line: &[u8], table: &[u8], b: u8, s: &mut [u8]) -> bool
     requires long { ⌜ length (now table) ≡ length (now line) ⌝ }
     requires located { ⌜ Locators (F·Field .meaning) (now table) ⌝ }
     ensures test { λ r. ⌜ r ≡ zeros (λ k. syndrome (F·Field .meaning) (now (line .entry)) (b + k)) (length (now (s .entry))) ⌝ }

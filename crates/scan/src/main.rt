@@ -59,16 +59,22 @@ fn mend_rows(rt: &LibcRuntime, block: &mut [u8], codewords: usize) -> Result<(),
         return Err("no memory for the column code".into());
     };
     let mut job = Job::new(rows, columns);
-    if let Ok(pass) = job.row_pass(block) {
-        let stuck = pass.stuck;
-        let bytes = pass.changes;
-        let mended = pass.decodings
-            .saturating_sub(codewords as u64)
-            .saturating_sub(stuck);
-        println!(
-            rt,
-            "rows decoded: {codewords} were codewords, {mended} mended at {bytes} bytes, {stuck} stuck"
-        )?;
+    match job.row_pass(block) {
+        Ok(pass) => {
+            let stuck = pass.stuck;
+            let bytes = pass.changes;
+            let mended = pass.decodings
+                .saturating_sub(codewords as u64)
+                .saturating_sub(stuck);
+            println!(
+                rt,
+                "rows decoded: {codewords} were codewords, {mended} mended at {bytes} bytes, {stuck} stuck"
+            )?;
+        }
+        Err(why) => {
+            let number = why.number();
+            println!(rt, "refused {number}: the row pass")?;
+        }
     }
     Ok(())
 }

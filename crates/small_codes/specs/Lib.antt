@@ -1,2 +1,3 @@
 pub mod Repetition
 pub mod Wordless
+pub mod Shown

@@ -43,7 +43,8 @@ pub record Choosable (m : Meaning) (s : List ℕ) (p : Polynomial) : Type 0 wher
   pub elements : Elements m (coefficients p)
   pub half : p .degree + p .degree ≤ length s
 
--- the free choice: what a solver answers on a sequence that nothing so short explains, nothing or any choosable polynomial
+-- what holds of every answer, and is all that holds on a sequence that nothing so short explains: there the solver has its
+-- free choice between nothing and any choosable polynomial
 abbrev pub FreeChoice : Meaning → List ℕ → Option Polynomial → Type 0
 FreeChoice m s (Some p) = Choosable m s p
 FreeChoice m s None = Unit {0}
