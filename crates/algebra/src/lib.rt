@@ -1,5 +1,8 @@
 // The mathematics of Reed–Solomon codes, in specs/ and proofs/, over every field of the field interface.
 // Nothing here computes: each function stands for the theorem that is its contract.
+
+#![tactic(auto)]
+
 ghost use Rattle.algebra.specs.Theorems.{ExchangeOfSums, FewRoots, FunctionalOverSyndromes, MinimumDistance, ShortestRecurrences};
 
 // Two finite sums may be taken in either order.

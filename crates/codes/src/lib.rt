@@ -1,4 +1,7 @@
 // The interface of line codes: what everything above a code rests on, and all that it may ask of one.
+
+#![tactic(auto)]
+
 ghost use Rattle.std.specs.Prelude.{◌≡◌, ℕ};
 ghost use Rattle.codes.specs.Meaning.{Meaning, Lawful};
 ghost use Rattle.codes.specs.Answers.{number, Checks, Answers};

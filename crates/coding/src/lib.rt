@@ -1,4 +1,7 @@
 // Coding a line over the disc field.
+
+#![tactic(auto)]
+
 mod coder;
 mod division;
 

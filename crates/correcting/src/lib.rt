@@ -1,4 +1,7 @@
 // Correcting a received line: it becomes the codeword in reach, and is stuck exactly when there is none.
+
+#![tactic(auto)]
+
 mod mending;
 mod places;
 mod values;

@@ -1,4 +1,7 @@
 // The command line: codes, corrects, inspects, compares, draws and replays blocks of a disc.
+
+#![tactic(auto)]
+
 mod comparing;
 mod correcting;
 mod drawing;

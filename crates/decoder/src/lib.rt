@@ -1,4 +1,7 @@
 // Reed–Solomon lines as line codes: any field, any solver, and the disc's codes by name.
+
+#![tactic(auto)]
+
 mod disc;
 mod line;
 

@@ -1,4 +1,7 @@
 // Correcting a block of a disc: one run of a new job, with at most six passes.
+
+#![tactic(auto)]
+
 mod codes_by_name;
 mod correcting_once;
 

@@ -1,4 +1,7 @@
 // Finite fields of at most 256 elements, each element a byte: the interface, and three fields that meet it.
+
+#![tactic(auto)]
+
 ghost use Rattle.std.specs.Prelude.{◌≡◌, ◌<◌, ◌≤◌};
 ghost use Rattle.fields.specs.Laws.{Meaning, FieldLaws};
 ghost use Rattle.fields.specs.Binary.{disc, Reduced};

@@ -1,4 +1,7 @@
 // Coding a frame by two Reed–Solomon codes over the disc field.
+
+#![tactic(auto)]
+
 ghost use Rattle.std.specs.Prelude.{◌≡◌, ℕ, ◌*◌, ◌<◌, length};
 ghost use Rattle.fields.specs.Binary.{disc};
 ghost use Rattle.codes.specs.Meaning.{Word};

@@ -1,4 +1,7 @@
 // A guard over a line's bytes while it is being corrected: at its end the old bytes are back, unless the closing check passed.
+
+#![tactic(auto)]
+
 ghost use Rattle.std.specs.Prelude.{◌≡◌, true, false, length};
 ghost use Rattle.guard.specs.Undo.{undo, Noted};
 

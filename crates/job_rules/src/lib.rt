@@ -1,4 +1,7 @@
 // What a job is made of: lines with their records, counts, calls and answers. The rules stand in specs/.
+
+#![tactic(auto)]
+
 mod answers;
 mod calls;
 mod laws;

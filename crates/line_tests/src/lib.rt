@@ -1,4 +1,7 @@
 // Tests of fields, code numbers, checking and coding on examples. Nothing here is used by other crates.
+
+#![tactic(auto)]
+
 use coding::Coder;
 use fields::{DiscField, DiscShifts, DiscTables, Field, Gf64};
 use reed_solomon::{CodeNumbers, Line};

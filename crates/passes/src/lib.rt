@@ -1,5 +1,8 @@
 // One line and one pass: what the calls of a job are made of. The functions that are pub here are for the
 // crate `jobs` alone, which meets what they ask of their callers; they are no interface of the product.
+
+#![tactic(auto)]
+
 mod columns;
 mod counting;
 mod lines;

@@ -1,4 +1,7 @@
 // Reed–Solomon codes: their numbers, the codes of the disc, and checking a line, over every field.
+
+#![tactic(auto)]
+
 ghost use Rattle.reed_solomon.specs.Theorems.{Distance};
 
 mod disc;

@@ -1,5 +1,8 @@
 // Reads a block of a disc from standard input, judges every row and every column of it, decodes each row once, and
 // prints the work done.
+
+#![tactic(auto)]
+
 mod listing;
 
 use crate::listing::Unmarked;

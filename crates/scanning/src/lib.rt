@@ -1,4 +1,7 @@
 // Judging a block of a disc: which of its rows and columns are codewords.
+
+#![tactic(auto)]
+
 ghost use Rattle.std.specs.Prelude.{◌≡◌, ◌-◌, ◌*◌, ◌≤◌, length};
 ghost use Rattle.fields.specs.Binary.{disc};
 ghost use Rattle.codes.specs.Meaning.{Word};

@@ -1,4 +1,7 @@
 // Two small line codes of other makes: what is promised over every line code is not about Reed–Solomon alone.
+
+#![tactic(auto)]
+
 mod repetition;
 mod shown;
 mod wordless;

@@ -1,4 +1,7 @@
 // Solving for the wrong places: from syndromes to the polynomial whose roots tell where a line is wrong.
+
+#![tactic(auto)]
+
 mod massey;
 mod polynomial;
 mod sequence;
