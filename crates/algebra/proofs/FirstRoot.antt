@@ -4,7 +4,7 @@ use Prim.Native.Nat.{ℕ, zero, suc, ◌+◌, ◌-◌, ◌*◌, ◌<◌, ◌≤�
 use native.Mathlib.Nat.{add-zero, add-suc, zero-add, suc-add, zero-mul, suc-mul}
 use native.Mathlib.Omega.{arith}
 use Rattle.algebra.proofs.Field.{Field}
-use Rattle.algebra.proofs.Ring.{ring, cancel, mul_nonzero, zero-mul as nil_mul, one_mul}
+use Rattle.algebra.proofs.Ring.{ring, cancel, mul_nonzero, zero_mul as nil_mul, one_mul}
 use Rattle.algebra.proofs.Sums.{sum, sum_cong}
 use Rattle.algebra.proofs.Places.{power, power_none, power_more, syndrome, Distinct}
 use Rattle.algebra.proofs.Locator.{power_nonzero}

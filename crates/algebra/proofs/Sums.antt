@@ -58,7 +58,7 @@ module _ {F : Type 0} (K : Field F) where
 
   pub sum_split : (n k : ℕ) (f : ℕ → F) → sum (n + k) f ≡ sum n f ⊕ sum k (λ i. f (n + i))
   unfolding sum
-  sum_split n zero f = rw Nat.add_zero (simp ring)
+  sum_split n zero f = rw Nat.add-zero (simp ring)
   sum_split n (suc k) f = rw add-suc (ap (λ t. t ⊕ f (n + k)) (sum_split n k f) ∙ simp ring)
 
   pub sum_single : (n j : ℕ) (f : ℕ → F) → j < n → ((i : ℕ) → i < n → ¬ (i ≡ j) → f i ≡ 𝟘) → sum n f ≡ f j

@@ -206,7 +206,7 @@ module _ (m g : ℕ) (step log : ℕ → ℕ) (c : Cyclic m g step log) where
     add_below = xor_lt m;
     add_assoc = λ a b d _ _ _. xor_assoc a b d;
     add_comm = λ a b _ _. xor_comm a b;
-    add-zero = λ a _. xor_zero_r a;
+    add_zero = λ a _. xor_zero_r a;
     add_self = λ a _. xor_self a;
     mul_below = λ a b ha hb. times_below m a b ha;
     mul_assoc = times_assoc;

@@ -45,5 +45,5 @@ impl Field for DiscShifts {
 }
 
 impl DiscField for DiscShifts {
-    ghost disc = { Prim.search rules };
+    ghost is_disc = { Prim.search rules };
 }

@@ -55,7 +55,7 @@ pub trait Field {
 
 // The field of the disc, by whatever means it computes.
 pub trait DiscField: Field {
-    ghost disc: { Self.Field.meaning ≡ disc };
+    ghost is_disc: { Self.meaning ≡ disc };
 }
 
 // The disc's product is that of bit polynomials reduced by x^8 + x^4 + x^3 + x^2 + 1.

@@ -104,5 +104,5 @@ impl Field for DiscTables {
 }
 
 impl DiscField for DiscTables {
-    ghost disc = { Prim.search rules };
+    ghost is_disc = { Prim.search rules };
 }

@@ -5,4 +5,4 @@ use Rattle.fields.specs.Binary.{product}
 use Rattle.fields.proofs.shifts.shift_inverse.Given as goal
 
 abbrev pub invariant-loop-k : goal.invariant-loop-k
-invariant-loop-k l = (2 ≤ l.-k) × (l.r ≡ power (product l.m l.p) l.a (l.-k - 2))
+invariant-loop-k l = (2 ≤ l._k) × (l.r ≡ power (product l.m l.p) l.a (l._k - 2))

@@ -20,9 +20,9 @@ loop-k-preserved c =
     let x = c.loop-k.x in
     let y = c.loop-k.y in
     let r = c.loop-k.r in
-    let n = m - (c.loop-k.-k + 1) in
+    let n = m - (c.loop-k._k + 1) in
     let t = product m c.args.p c.args.a c.args.b in
-    let more : suc (c.args.m - (c.loop-k.-k + 1)) ≡ c.args.m - c.loop-k.-k = omega arith in
+    let more : suc (c.args.m - (c.loop-k._k + 1)) ≡ c.args.m - c.loop-k._k = omega arith in
     let inv : bit_xor r (times f (suc n) x y) ≡ t = ap (λ n. bit_xor r (times f n x y)) more ∙ c.loop-k.invariant.1 in (
       subst (λ (z : ℕ). z < 2 ^ m) (sym c.shifted-x.ensures) (c.requires.closed x c.loop-k.invariant.0),
       ap (λ s. bit_xor c.if-y-eq1.r (times f n s (y / 2))) c.shifted-x.ensures
@@ -36,6 +36,6 @@ loop-k-preserved c =
 
 pub returns : goal.returns
 returns c =
-    let none : c.args.m - c.loop-k.-k ≡ 0 = omega arith in
+    let none : c.args.m - c.loop-k._k ≡ 0 = omega arith in
     sym (ap (λ n. bit_xor c.loop-k.r (times (shift c.args.m c.args.p) n c.loop-k.x c.loop-k.y)) none ∙ xor_zero_r c.loop-k.r)
     ∙ c.loop-k.invariant.1

@@ -5,8 +5,8 @@ use Rattle.small_codes.specs.Repetition.{unlike}
 use Rattle.small_codes.specs.Majority.{occurs}
 use Rattle.small_codes.proofs.repetition.majority.Goals as goal
 
-pub overflow-mul-others : goal.overflow-mul-others
-overflow-mul-others c = omega (arith, c.others.ensures.most, c.requires)
+pub overflow_mul-others : goal.overflow_mul-others
+overflow_mul-others c = omega (arith, c.others.ensures.most, c.requires)
 
 pub returns : goal.returns
 returns c =
@@ -17,13 +17,13 @@ returns c =
             omega (arith, c.loop-byte.invariant o.0 (let h = o.1 in omega arith), ap (λ y. unlike y line) o.2))
         | no nl ↦ omega arith
       ];
-      bytes = all_below 256 line (λ i h. (c.type-inv.line i).fits);
+      bytes = all_below 256 line (λ i h. (c.type_inv.line i).fits);
     }
 
 pub returns-then-others-line : goal.returns-then-others-line
 returns-then-others-line c =
     let line = c.args.line.now in
     record {
-      most = ((c.type-inv.line c.loop-byte.byte-index).fits, omega (arith, c.others.ensures.value, c.if-others-line.true));
-      bytes = all_below 256 line (λ i h. (c.type-inv.line i).fits);
+      most = ((c.type_inv.line c.loop-byte.byte-index).fits, omega (arith, c.others.ensures.value, c.if-others-line.true));
+      bytes = all_below 256 line (λ i h. (c.type_inv.line i).fits);
     }

@@ -12,8 +12,8 @@ returns-then-places-reach g c =
     let law = g.met.L.LineCode.lawful c.args.self.now.code in
     let s = c.args.self.now.reach in
     let places = c.in-Mended.places in
-    let e = c.in-ok-answer.ensures in
-    let is : c.in-ok-answer.answer ≡ Mended places = c.in-Mended.is in
+    let e = c.in_ok-answer.ensures in
+    let is : c.in_ok-answer.answer ≡ Mended places = c.in-Mended.is in
     let d : Mends m c.args.line.now c.decode.new.line places =
     subst (λ (a : Decoded). Decodes m c.args.line.now c.decode.new.line a) is e.answer.0 in
     let far : min s m.reach < places = omega (arith, c.reach-reach.ensures, c.if-places-reach.true) in
@@ -22,7 +22,7 @@ returns-then-places-reach g c =
       answer = (
         record {
           long = d.long;
-          same = c.copy-from-slice-then-places-reach.ensures.after ∙ c.copy-from-slice.ensures.after;
+          same = c.copy_from_slice-then-places-reach.ensures.after ∙ c.copy_from_slice.ensures.after;
           far = beyond m law s c.args.line.now c.decode.new.line places d far;
         },
         e.answer.1,

@@ -11,4 +11,4 @@ returns g c =
     let long : length c.args.line.now ≡ c.args.self.now.numbers.length = omega arith in
     codes_of n.length n.dimension n.root n.order c.args.line.now c.complete.new.line
     long n.less c.args.self.now.disc
-    (subst (λ (m : Meaning). Completed m n.root (n.length - n.dimension) c.args.line.now c.complete.new.line) g.met.F.DiscField.disc c.complete.ensures)
+    (subst (λ (m : Meaning). Completed m n.root (n.length - n.dimension) c.args.line.now c.complete.new.line) g.met.F.DiscField.is_disc c.complete.ensures)

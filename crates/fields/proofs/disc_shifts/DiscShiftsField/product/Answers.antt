@@ -8,8 +8,8 @@ use Rattle.fields.specs.Fields.{disc_tests, disc_elements, disc_laws}
 use Rattle.fields.proofs.Outside.{mul_left, mul_right}
 use Rattle.fields.proofs.disc_shifts.DiscShiftsField.product.Goals as goal
 
-pub shift-product-requires : goal.shift-product-requires
-shift-product-requires c = record { small = omega arith; closed = closed 8 285 disc_tests; within = omega arith }
+pub shift_product-requires : goal.shift_product-requires
+shift_product-requires c = record { small = omega arith; closed = closed 8 285 disc_tests; within = omega arith }
 
 pub returns : goal.returns
 returns c =
@@ -17,9 +17,9 @@ returns c =
     let b = c.args.b in
     let ha : c.args.a < 256 = omega arith in
     let hb : c.args.b < 256 = omega arith in
-    let e = c.shift-product.ensures ∙ sym (mul_in (elements 8 285) disc_elements a b ha hb) in
+    let e = c.shift_product.ensures ∙ sym (mul_in (elements 8 285) disc_elements a b ha hb) in
     record {
       value = e;
       left_out = mul_left disc disc_laws a b _ e;
-      right-out = mul_right disc disc_laws a b _ e;
+      right_out = mul_right disc disc_laws a b _ e;
     }

@@ -9,8 +9,8 @@ use Rattle.fields.specs.Fields.{gf64_tests, gf64_elements, gf64_laws}
 use Rattle.fields.proofs.Outside.{mul_left, mul_right, mul_outside}
 use Rattle.fields.proofs.gf64.Gf64Field.product.Goals as goal
 
-pub shift-product-requires : goal.shift-product-requires
-shift-product-requires c = record { small = omega arith; closed = closed 6 67 gf64_tests; within = omega arith }
+pub shift_product-requires : goal.shift_product-requires
+shift_product-requires c = record { small = omega arith; closed = closed 6 67 gf64_tests; within = omega arith }
 
 pub returns : goal.returns
 returns c =
@@ -18,11 +18,11 @@ returns c =
     let b = c.args.b in
     let ha : c.args.a < 64 = omega arith in
     let hb : c.args.b < 64 = omega arith in
-    let e = c.shift-product.ensures ∙ sym (mul_in (elements 6 67) gf64_elements a b ha hb) in
+    let e = c.shift_product.ensures ∙ sym (mul_in (elements 6 67) gf64_elements a b ha hb) in
     record {
       value = e;
       left_out = mul_left sixty_four gf64_laws a b _ e;
-      right-out = mul_right sixty_four gf64_laws a b _ e;
+      right_out = mul_right sixty_four gf64_laws a b _ e;
     }
 
 pub returns-then-a-ge64 : goal.returns-then-a-ge64
@@ -34,5 +34,5 @@ returns-then-a-ge64 c =
     record {
       value = e;
       left_out = mul_left sixty_four gf64_laws a b 0 e;
-      right-out = mul_right sixty_four gf64_laws a b 0 e;
+      right_out = mul_right sixty_four gf64_laws a b 0 e;
     }

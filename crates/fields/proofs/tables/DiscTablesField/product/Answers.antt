@@ -20,7 +20,7 @@ returns-then-a-eq0 c =
     record {
       value = e;
       left_out = mul_left disc disc_laws c.args.a c.args.b 0 e;
-      right-out = mul_right disc disc_laws c.args.a c.args.b 0 e;
+      right_out = mul_right disc disc_laws c.args.a c.args.b 0 e;
     }
 
 pub returns : goal.returns
@@ -33,5 +33,5 @@ returns c =
     record {
       value = e;
       left_out = mul_left disc disc_laws a b _ e;
-      right-out = mul_right disc disc_laws a b _ e;
+      right_out = mul_right disc disc_laws a b _ e;
     }

@@ -9,5 +9,5 @@ pub returns : goal.returns
 returns c = record {
   value = λ ha hb. sym (add_in (elements 8 285) disc_elements c.args.a c.args.b ha hb);
   left_out = search rules;
-  right-out = search rules;
+  right_out = search rules;
 }

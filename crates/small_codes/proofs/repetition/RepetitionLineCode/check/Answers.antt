@@ -11,7 +11,7 @@ returns c =
       c.if-line-self.false,
       λ h. record {
         long = c.if-line-self.false;
-        below = all_below 256 line (λ i l. (c.type-inv.line i).fits);
+        below = all_below 256 line (λ i l. (c.type_inv.line i).fits);
         is = first_alike line _ (sym c.others.ensures.value ∙ eqb-true n 0 h);
       },
       λ w. eq-eqb n 0 (c.others.ensures.value ∙ alike_first line (omega arith) w.is),
