@@ -13,7 +13,7 @@ abbrev pub passes_offered : ℕ
 passes_offered = 6
 
 -- a new job over these codes was given one call, a run with this limit, and kept the promise over every list of calls
-pub record RanOnce {P Q : Type 0} (f : Ghosts P) (g : Ghosts Q) (row : P) (column : Q) (limit : ℕ) (frame frame' : List ℕ) (job : Job P Q) (answer : Result RunAnswer Refusal) : Type 0 where
+pub record RanOnce {P Q : Type 0} (f : Ghosts P) (g : Ghosts Q) (row : P) (column : Q) (limit : ℕ) (frame frame' : List ℕ) (job : Job P Q f g) (answer : Result RunAnswer Refusal) : Type 0 where
   pub rows : row_meaning f job ≡ f.meaning row
   pub columns : column_meaning g job ≡ g.meaning column
   pub promise : Promise (f.meaning row) (g.meaning column) frame (f.count row) (g.count column) (run limit ∷ []) (answer_of_run answer ∷ []) (state f g job frame')

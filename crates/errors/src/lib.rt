@@ -2,4 +2,3 @@
 // Nothing here computes: the decoder's contracts and proofs cite it.
 
 #![tactic(auto)]
-

@@ -18,15 +18,15 @@ use Rattle.job_rules.specs.Bounds.{most_lines, most_changes}
 use Rattle.jobs.specs.declared.job.Job.{Job}
 
 -- what the job's row code means
-abbrev pub row_meaning : {P Q : Type 0} → Ghosts P → Job P Q → Meaning
+abbrev pub row_meaning : {P Q : Type 0} {g : Ghosts Q} (f : Ghosts P) → Job P Q f g → Meaning
 row_meaning f job = f.meaning job.row_code
 
 -- what the job's column code means
-abbrev pub column_meaning : {P Q : Type 0} → Ghosts Q → Job P Q → Meaning
+abbrev pub column_meaning : {P Q : Type 0} {f : Ghosts P} (g : Ghosts Q) → Job P Q f g → Meaning
 column_meaning g job = g.meaning job.column_code
 
 -- what a job has that is lent this frame: of its tables, the records of its R rows and C columns
-abbrev pub state : {P Q : Type 0} → Ghosts P → Ghosts Q → Job P Q → List ℕ → State
+abbrev pub state : {P Q : Type 0} (f : Ghosts P) (g : Ghosts Q) → Job P Q f g → List ℕ → State
 state f g job frame = record {
   frame = frame;
   rows = take (column_meaning g job).size (on Row job.lines);
@@ -50,13 +50,13 @@ answer_of_delivery (Ok n) = Redelivered n
 answer_of_delivery (Err why) = Refused why
 
 -- a call of a job: its codes mean what they meant, and all else is as the rules say
-pub record Called {P Q : Type 0} (f : Ghosts P) (g : Ghosts Q) (job job' : Job P Q) (frame frame' : List ℕ) (request : Request) (answer : Answer) : Type 0 where
+pub record Called {P Q : Type 0} (f : Ghosts P) (g : Ghosts Q) (job job' : Job P Q f g) (frame frame' : List ℕ) (request : Request) (answer : Answer) : Type 0 where
   pub rows : row_meaning f job' ≡ row_meaning f job
   pub columns : column_meaning g job' ≡ column_meaning g job
   pub does : Does (row_meaning f job) (column_meaning g job) request (state f g job frame) answer (state f g job' frame')
 
 -- one pass of a job
-pub record PassMade {P Q : Type 0} (f : Ghosts P) (g : Ghosts Q) (job job' : Job P Q) (frame frame' : List ℕ) (kind : Kind) (e : Effort) : Type 0 where
+pub record PassMade {P Q : Type 0} (f : Ghosts P) (g : Ghosts Q) (job job' : Job P Q f g) (frame frame' : List ℕ) (kind : Kind) (e : Effort) : Type 0 where
   pub rows : row_meaning f job' ≡ row_meaning f job
   pub columns : column_meaning g job' ≡ column_meaning g job
   pub made : Pass (row_meaning f job) (column_meaning g job) kind (state f g job frame) (state f g job' frame') e
@@ -64,7 +64,7 @@ pub record PassMade {P Q : Type 0} (f : Ghosts P) (g : Ghosts Q) (job job' : Job
   pub low : e.changes ≤ most_changes
 
 -- the passes of a run
-pub record RunMade {P Q : Type 0} (f : Ghosts P) (g : Ghosts Q) (job job' : Job P Q) (frame frame' : List ℕ) (limit : ℕ) (answer : RunAnswer) : Type 0 where
+pub record RunMade {P Q : Type 0} (f : Ghosts P) (g : Ghosts Q) (job job' : Job P Q f g) (frame frame' : List ℕ) (limit : ℕ) (answer : RunAnswer) : Type 0 where
   pub rows : row_meaning f job' ≡ row_meaning f job
   pub columns : column_meaning g job' ≡ column_meaning g job
   pub work : Work

@@ -8,16 +8,16 @@ use Rattle.reed_solomon.specs.Lines.{code_of}
 use Rattle.coding.specs.Coding.{SameMessage}
 use Rattle.frames.proofs.code_rows.Goals as goal
 
-pub slice-bounds-code-row-end : goal.slice-bounds-code-row-end
-slice-bounds-code-row-end g c =
+pub slice_bounds-code_row-end : goal.slice_bounds-code_row-end
+slice_bounds-code_row-end g c =
     let n = c.args.coder.now.numbers in
     let e = row_end c.args.height c.loop-i.i n.length (omega (arith, c.requires.less)) in
     let whole = c.requires.whole in
     let fits : c.loop-i.i * n.length + n.length ≤ length c.loop-i.frame = omega arith in
     search rules
 
-pub slice-bounds-code-row-end-in-loop-i : goal.slice-bounds-code-row-end-in-loop-i
-slice-bounds-code-row-end-in-loop-i g c =
+pub slice_bounds-code_row-end-in-loop-i : goal.slice_bounds-code_row-end-in-loop-i
+slice_bounds-code_row-end-in-loop-i g c =
     let n = c.args.coder.now.numbers in
     let e = row_end c.args.rows c.loop-i.i n.dimension (omega arith) in
     let fits : c.loop-i.i * n.dimension + n.dimension ≤ length c.args.message.now = omega (arith, c.requires.message) in
@@ -32,21 +32,21 @@ loop-i-preserved g c =
     let size : length c.loop-i.frame ≡ c.args.height * w = c.loop-i.auto.frame ∙ c.requires.whole in
     let inside : i < c.args.height = omega (arith, c.requires.less) in
     let end = row_end c.args.height i w inside in
-    let long : length c.code-row.new.line ≡ w = c.code-row.auto.line ∙ simp (length-take, length-drop) (omega arith) in
-    let becomes : Becomes (row w) c.args.height i c.code-row.new.line c.loop-i.frame (put_mid (i * w) (i * w + w - i * w) c.loop-i.frame c.code-row.new.line) =
-    subst (λ (k : ℕ). Becomes (row w) c.args.height i c.code-row.new.line c.loop-i.frame (put_mid (i * w) k c.loop-i.frame c.code-row.new.line)) (sym part)
-    (row_becomes w c.args.height i c.loop-i.frame c.code-row.new.line c.code-row.new.line size inside long refl) in
+    let long : length c.code_row.new.line ≡ w = c.code_row.auto.line ∙ simp (length-take, length-drop) (omega arith) in
+    let becomes : Becomes (row w) c.args.height i c.code_row.new.line c.loop-i.frame (put_mid (i * w) (i * w + w - i * w) c.loop-i.frame c.code_row.new.line) =
+    subst (λ (k : ℕ). Becomes (row w) c.args.height i c.code_row.new.line c.loop-i.frame (put_mid (i * w) k c.loop-i.frame c.code_row.new.line)) (sym part)
+    (row_becomes w c.args.height i c.loop-i.frame c.code_row.new.line c.code_row.new.line size inside long refl) in
     let from : i * n.dimension + n.dimension - i * n.dimension ≡ n.dimension = omega arith in
     let bytes = drop (i * n.dimension) c.args.message.now in
     let whole : length (take (i * n.dimension + n.dimension - i * n.dimension) bytes) ≡ n.dimension =
     let e = row_end c.args.rows i n.dimension (omega arith) in
     simp (length-take, length-drop) (omega (arith, c.requires.message)) in
-    let head : SameMessage n.dimension c.code-row.new.line (take n.dimension bytes) =
-    subst (λ (k : ℕ). SameMessage n.dimension c.code-row.new.line (take k bytes)) from
-    (subst (λ (k : ℕ). SameMessage k c.code-row.new.line (take (i * n.dimension + n.dimension - i * n.dimension) bytes)) whole c.code-row.ensures.head) in (
+    let head : SameMessage n.dimension c.code_row.new.line (take n.dimension bytes) =
+    subst (λ (k : ℕ). SameMessage n.dimension c.code_row.new.line (take k bytes)) from
+    (subst (λ (k : ℕ). SameMessage k c.code_row.new.line (take (i * n.dimension + n.dimension - i * n.dimension) bytes)) whole c.code_row.ensures.head) in (
       below_more _ _
           (λ k h. subst (Word (code_of disc n)) (sym (becomes.others k (omega (arith, c.requires.less)) (λ q. omega arith))) (c.loop-i.invariant.0 k h))
-          (subst (Word (code_of disc n)) (sym becomes.here) c.code-row.ensures.word),
+          (subst (Word (code_of disc n)) (sym becomes.here) c.code_row.ensures.word),
       below_more _ _
           (λ k h. subst (λ (l : List ℕ). SameMessage n.dimension l (row n.dimension c.args.message.now k)) (sym (becomes.others k (omega (arith, c.requires.less)) (λ q. omega arith))) (c.loop-i.invariant.1 k h))
           (subst (λ (l : List ℕ). SameMessage n.dimension l (take n.dimension bytes)) (sym becomes.here) head),

@@ -5,26 +5,26 @@ use Rattle.coding.proofs.coder.complete.Goals as goal
 
 pub generator-requires : goal.generator-requires
 generator-requires g c =
-    let e = c.room-divisor-room.ensures.long in
-    let l = length-take-le (c.args.checks + 1) c.room-divisor-room.result (let h = c.requires.few in omega arith) in
+    let e = c.room-divisor_room.ensures.long in
+    let l = length-take-le (c.args.checks + 1) c.room-divisor_room.result (let h = c.requires.few in omega arith) in
     record {
       some = omega arith;
-      zero = taken_zero (c.args.checks + 1) c.room-divisor-room.result (let h = c.requires.few in omega arith) c.room-divisor-room.ensures.zero;
+      zero = taken_zero (c.args.checks + 1) c.room-divisor_room.result (let h = c.requires.few in omega arith) c.room-divisor_room.ensures.zero;
     }
 
 pub divide-requires : goal.divide-requires
 divide-requires g c =
-    let e = c.room-divisor-room.ensures.long in
-    let f = c.room-register-room.ensures.long in
+    let e = c.room-divisor_room.ensures.long in
+    let f = c.room-register_room.ensures.long in
     let few = c.requires.few in
     let n = length c.args.line.now in
     let k = length c.args.line.now - c.args.checks in
-    let ld = length-take-le (c.args.checks + 1) c.room-divisor-room.result (omega arith) in
-    let lr = length-take-le c.args.checks c.room-register-room.result (omega arith) in
+    let ld = length-take-le (c.args.checks + 1) c.room-divisor_room.result (omega arith) in
+    let lr = length-take-le c.args.checks c.room-register_room.result (omega arith) in
     let lm = length-take-le (n - c.args.checks - 0) c.args.line.now (omega arith) in
     record {
       some = omega (arith, c.requires.some);
-      empty = taken_zero c.args.checks c.room-register-room.result (omega arith) c.room-register-room.ensures.zero;
+      empty = taken_zero c.args.checks c.room-register_room.result (omega arith) c.room-register_room.ensures.zero;
       long = c.generator.auto.g ∙ omega arith;
       symbols = λ p l.
           subst (λ (a : ℕ). a < g.F.Field.meaning.q) (sym (get_or-take (n - c.args.checks - 0) c.args.line.now p 0 (omega arith)))
@@ -33,8 +33,8 @@ divide-requires g c =
 
 pub returns : goal.returns
 returns g c =
-    let f = c.room-register-room.ensures.long in
-    let lr = length-take-le c.args.checks c.room-register-room.result (let few = c.requires.few in omega arith) in
+    let f = c.room-register_room.ensures.long in
+    let lr = length-take-le c.args.checks c.room-register_room.result (let few = c.requires.few in omega arith) in
     let k = length c.args.line.now - c.args.checks in
     let all : length c.args.line.now - c.args.checks - 0 ≡ length c.args.line.now - c.args.checks = omega arith in
     completed g.F.Field.meaning g.met.F.Field.laws c.args.b c.args.checks k

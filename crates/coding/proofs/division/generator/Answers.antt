@@ -17,10 +17,10 @@ pub loop-i-preserved : goal.loop-i-preserved
 loop-i-preserved g c =
     let m = g.F.Field.meaning in
     let l = c.loop-i in
-    let e : suc (c.args.b + l.-i) ≡ c.args.b + (l.-i + 1) = omega arith in (
-      c.times-root.ensures.elements,
+    let e : suc (c.args.b + l._i) ≡ c.args.b + (l._i + 1) = omega arith in (
+      c.times_root.ensures.elements,
       c.product-z.ensures.value ∙ ap₂ m.mul c.alpha-alpha.ensures l.invariant.1 ∙ ap (power m.mul m.g) e,
-      gen_step m c.args.b l.-i l.z l.g c.times-root.new.g l.invariant.2 l.invariant.1 c.times-root.auto.g c.times-root.ensures.is,
+      gen_step m c.args.b l._i l.z l.g c.times_root.new.g l.invariant.2 l.invariant.1 c.times_root.auto.g c.times_root.ensures.is,
     )
 
 pub returns : goal.returns
@@ -29,7 +29,7 @@ returns g c =
     let l = c.loop-i in
     let e = length-set c.args.g.now 0 1 in
     let some = c.requires.some in
-    let all : l.-i ≡ length l.g - 1 = omega arith in
+    let all : l._i ≡ length l.g - 1 = omega arith in
     record {
       elements = l.invariant.0;
       is = generator_of m g.met.F.Field.laws c.args.b l.g (omega arith) l.invariant.0 (subst (λ (n : ℕ). Multiplied m c.args.b l.g n) all l.invariant.2);

@@ -8,5 +8,5 @@ abbrev pub invariant-loop-i : goal.invariant-loop-i
 invariant-loop-i g l =
     let m = g.F.Field.meaning in
     Elements m l.g
-    × (l.z ≡ power m.mul m.g (l.b + l.-i))
-    × Multiplied m l.b l.g l.-i
+    × (l.z ≡ power m.mul m.g (l.b + l._i))
+    × Multiplied m l.b l.g l._i

@@ -12,12 +12,12 @@ decide-requires g c =
     let checks = read-numbers.length - read-numbers.dimension in
     let few = read-numbers.checks in
     let sums = c.syndromes.new.sums in
-    let part = length-take-le (checks - 0) c.syndrome-room-room.result (omega (arith, c.syndrome-room-room.ensures)) in
+    let part = length-take-le (checks - 0) c.syndrome_room-room.result (omega (arith, c.syndrome_room-room.ensures)) in
     let long : length sums ≡ checks = omega (arith, c.syndromes.auto.sums, part) in
     let whole : min checks 32 ≡ length sums = omega arith in
     let is : terms c.new.result ≡ sums =
     ap₂ (λ k xs. take k xs) (c.new.ensures.count ∙ whole) c.new.ensures.terms ∙ front sums sums _ (length sums) refl refl in
-    let read = c.in-ok-syndromes.ensures in
+    let read = c.in_ok-syndromes.ensures in
     record {
       long = read.0;
       count = ap length is ∙ long ∙ ap (λ (k : CodeNumbers). k.length - k.dimension) c.numbers-numbers.ensures;

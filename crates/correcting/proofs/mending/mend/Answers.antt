@@ -9,13 +9,13 @@ use Rattle.errors.proofs.Decided.{stuck_unsolved, stuck_places, stuck_check, men
 use Rattle.reed_solomon.specs.declared.numbers.CodeNumbers.{CodeNumbers}
 use Rattle.correcting.proofs.mending.mend.Goals as goal
 
-pub returns-in-default : goal.returns-in-default
-returns-in-default g c =
+pub returns-in_default : goal.returns-in_default
+returns-in_default g c =
     stuck_unsolved g.F.Field.meaning g.met.F.Field.laws c.args.code.now.numbers c.args.line.now c.args.table.now
-    (terms c.args.syndromes.now) c.requires c.in-default.ensures.solves
+    (terms c.args.syndromes.now) c.requires c.in_default.ensures.solves
 
-pub find-places-requires : goal.find-places-requires
-find-places-requires g c =
+pub find_places-requires : goal.find_places-requires
+find_places-requires g c =
     let m = g.F.Field.meaning in
     let t = g.met.F.Field.laws in
     let n = c.args.code.now.numbers in
@@ -33,8 +33,8 @@ find-places-requires g c =
       below = table_elements m t n line table s c.requires;
     }
 
-pub returns-then-not-find-places : goal.returns-then-not-find-places
-returns-then-not-find-places g c =
+pub returns-then-not-find_places : goal.returns-then-not-find_places
+returns-then-not-find_places g c =
     let m = g.F.Field.meaning in
     let t = g.met.F.Field.laws in
     let n = c.args.code.now.numbers in
@@ -47,9 +47,9 @@ returns-then-not-find-places g c =
     let sol : LocatesAll m s p =
     subst (λ (xs : List ℕ). LocatesAll m s xs) (sym c.coefficients.ensures.value) c.in-Some.ensures.solves in
     let few = c.in-Some.polynomial.few in
-    let part = length-take-le (d - 0) c.place-room-found-room.result (omega (arith, c.place-room-found-room.ensures, c.degree-degree.ensures)) in
+    let part = length-take-le (d - 0) c.place_room-found_room.result (omega (arith, c.place_room-found_room.ensures, c.degree-degree.ensures)) in
     stuck_places m t n line table s c.requires p d size sol
-    (λ e. c.find-places.ensures.others c.if-not-find-places.true (omega (arith, e, part)))
+    (λ e. c.find_places.ensures.others c.if-not-find_places.true (omega (arith, e, part)))
 
 pub corrections-requires : goal.corrections-requires
 corrections-requires g c =
@@ -65,14 +65,14 @@ corrections-requires g c =
     let sol : LocatesAll m s p =
     subst (λ (xs : List ℕ). LocatesAll m s xs) (sym c.coefficients.ensures.value) c.in-Some.ensures.solves in
     let few = c.in-Some.polynomial.few in
-    let part = length-take-le (d - 0) c.place-room-found-room.result (omega (arith, c.place-room-found-room.ensures, c.degree-degree.ensures)) in
-    let found = c.find-places.new.found in
-    let as_many : length found ≡ d = omega (arith, c.find-places.auto.found, part) in
+    let part = length-take-le (d - 0) c.place_room-found_room.result (omega (arith, c.place_room-found_room.ensures, c.degree-degree.ensures)) in
+    let found = c.find_places.new.found in
+    let as_many : length found ≡ d = omega (arith, c.find_places.auto.found, part) in
     let lists : Lists (root_at m p table) (length table) found (length found) =
-    c.find-places.ensures.places c.if-not-find-places.false in
+    c.find_places.ensures.places c.if-not-find_places.false in
     let terms-are = c.terms.ensures.value in
     let half = c.in-Some.ensures.choice.half in
-    let fixed-part = length-take-le (d - 0) c.place-room-fixed-room.result (omega (arith, c.place-room-fixed-room.ensures, c.degree-degree.ensures)) in
+    let fixed-part = length-take-le (d - 0) c.place_room-fixed_room.result (omega (arith, c.place_room-fixed_room.ensures, c.degree-degree.ensures)) in
     record {
       inside = lists.inside;
       room = omega (arith, fixed-part, as_many);
@@ -98,11 +98,11 @@ returns-then-apply g c =
     let sol : LocatesAll m s p =
     subst (λ (xs : List ℕ). LocatesAll m s xs) (sym c.coefficients.ensures.value) c.in-Some.ensures.solves in
     let few = c.in-Some.polynomial.few in
-    let part = length-take-le (d - 0) c.place-room-found-room.result (omega (arith, c.place-room-found-room.ensures, c.degree-degree.ensures)) in
-    let found = c.find-places.new.found in
-    let as_many : length found ≡ d = omega (arith, c.find-places.auto.found, part) in
+    let part = length-take-le (d - 0) c.place_room-found_room.result (omega (arith, c.place_room-found_room.ensures, c.degree-degree.ensures)) in
+    let found = c.find_places.new.found in
+    let as_many : length found ≡ d = omega (arith, c.find_places.auto.found, part) in
     let lists : Lists (root_at m p table) (length table) found (length found) =
-    c.find-places.ensures.places c.if-not-find-places.false in
+    c.find_places.ensures.places c.if-not-find_places.false in
     let fixed = c.corrections.new.fixed in
     let fixes : Fixes m n.root line table s found fixed =
     subst (λ (xs : List ℕ). Fixes m n.root line table xs found fixed) c.terms.ensures.value
@@ -125,11 +125,11 @@ returns-else-apply g c =
     let sol : LocatesAll m s p =
     subst (λ (xs : List ℕ). LocatesAll m s xs) (sym c.coefficients.ensures.value) c.in-Some.ensures.solves in
     let few = c.in-Some.polynomial.few in
-    let part = length-take-le (d - 0) c.place-room-found-room.result (omega (arith, c.place-room-found-room.ensures, c.degree-degree.ensures)) in
-    let found = c.find-places.new.found in
-    let as_many : length found ≡ d = omega (arith, c.find-places.auto.found, part) in
+    let part = length-take-le (d - 0) c.place_room-found_room.result (omega (arith, c.place_room-found_room.ensures, c.degree-degree.ensures)) in
+    let found = c.find_places.new.found in
+    let as_many : length found ≡ d = omega (arith, c.find_places.auto.found, part) in
     let lists : Lists (root_at m p table) (length table) found (length found) =
-    c.find-places.ensures.places c.if-not-find-places.false in
+    c.find_places.ensures.places c.if-not-find_places.false in
     let fixed = c.corrections.new.fixed in
     let fixes : Fixes m n.root line table s found fixed =
     subst (λ (xs : List ℕ). Fixes m n.root line table xs found fixed) c.terms.ensures.value

@@ -18,16 +18,16 @@ returns g c =
     let p = c.args.self.now.rows.numbers in
     let q = c.args.self.now.columns.numbers in
     let whole : length c.args.frame.now ≡ q.length * p.length = omega arith in
-    let between = c.code-rows.new.frame in
-    let after = c.code-columns.new.frame in
+    let between = c.code_rows.new.frame in
+    let after = c.code_columns.new.frame in
     let all : q.length - 0 ≡ q.length = omega arith in
-    let room : length (take (q.length - 0) c.column-room-room.result) ≡ q.length =
-    length-take-le (q.length - 0) c.column-room-room.result (let h = q.short in let e = c.column-room-room.ensures in omega arith) ∙ all in (
+    let room : length (take (q.length - 0) c.column_room-room.result) ≡ q.length =
+    length-take-le (q.length - 0) c.column_room-room.result (let h = q.short in let e = c.column_room-room.ensures in omega arith) ∙ all in (
       whole,
       omega arith,
       coded disc disc_laws p.length p.dimension p.root p.order q.length q.dimension q.root q.order (within p) (within q)
-          c.args.message.now between after (c.code-rows.auto.frame ∙ whole) (c.code-columns.auto.frame ∙ c.code-rows.auto.frame ∙ whole)
-          c.code-rows.ensures.words c.code-rows.ensures.heads
-          (subst (λ (n : ℕ). (j : ℕ) → j < p.length → Word (code_of disc q) (column p.length n after j)) room c.code-columns.ensures.words)
-          (subst (λ (n : ℕ). (j : ℕ) → j < p.length → SameMessage q.dimension (column p.length n after j) (column p.length n between j)) room c.code-columns.ensures.heads),
+          c.args.message.now between after (c.code_rows.auto.frame ∙ whole) (c.code_columns.auto.frame ∙ c.code_rows.auto.frame ∙ whole)
+          c.code_rows.ensures.words c.code_rows.ensures.heads
+          (subst (λ (n : ℕ). (j : ℕ) → j < p.length → Word (code_of disc q) (column p.length n after j)) room c.code_columns.ensures.words)
+          (subst (λ (n : ℕ). (j : ℕ) → j < p.length → SameMessage q.dimension (column p.length n after j) (column p.length n between j)) room c.code_columns.ensures.heads),
     )

@@ -6,10 +6,10 @@ use borrow.Author.Rules.{rules}
 use Rattle.guard.proofs.Undone.{undo_set, noted_set}
 use Rattle.guard.proofs.Guard.set.Goals as goal
 
-pub invariant-of-self-2 : goal.invariant-of-self-2
-invariant-of-self-2 c =
+pub invariant_of-self-2 : goal.invariant_of-self-2
+invariant_of-self-2 c =
     let hp : c.args.self.now.count < length c.args.self.now.places = search rules in
-    (noted_set _ _ _ _ (omega arith) (omega arith) hp c.args.self.now.noted, tt)
+    record { noted = noted_set _ _ _ _ (omega arith) (omega arith) hp c.args.self.now.noted }
 
 pub returns : goal.returns
 returns c =

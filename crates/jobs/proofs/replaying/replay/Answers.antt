@@ -21,8 +21,8 @@ loop-k-preserved g c =
 
 pub returns : goal.returns
 returns g c =
-    let x = c.args.row-code in
-    let y = c.args.column-code in
+    let x = c.args.row_code in
+    let y = c.args.column_code in
     let p = g.P.LineCode.meaning x in
     let q = g.Q.LineCode.meaning y in
     let m = g.P.LineCode.count x in
@@ -34,10 +34,10 @@ returns g c =
     let end = state g.P.LineCode g.Q.LineCode c.loop-k.job c.loop-k.frame in
     let all = along_all _ _ _ _ c.args.list.now c.loop-k.list c.loop-k.k _ end u past in
     let answers = answers_so_far _ _ _ _ c.args.list.now c.loop-k.list c.loop-k.k _ end u in
-    let from = gives_same _ p _ q (requests c.args.list.now) _ (start p q frame m n) answers end (ap g.P.LineCode.meaning made.row-code) (ap g.Q.LineCode.meaning made.column-code) (made.new frame) all in
+    let from = gives_same _ p _ q (requests c.args.list.now) _ (start p q frame m n) answers end (ap g.P.LineCode.meaning made.row_code) (ap g.Q.LineCode.meaning made.column_code) (made.new frame) all in
     record {
-      rows = u.row ∙ ap g.P.LineCode.meaning made.row-code;
-      columns = u.column ∙ ap g.Q.LineCode.meaning made.column-code;
+      rows = u.row ∙ ap g.P.LineCode.meaning made.row_code;
+      columns = u.column ∙ ap g.Q.LineCode.meaning made.column_code;
       kept = u.kept;
       answers = answers;
       given = along_given _ _ _ _ c.args.list.now c.loop-k.list c.loop-k.k _ end u past;

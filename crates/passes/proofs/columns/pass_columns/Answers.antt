@@ -10,26 +10,26 @@ use Rattle.passes.proofs.columns.pass_columns.Goals as goal
 pub loop-j-init : goal.loop-j-init
 loop-j-init g c = (refl, c.blank-old.ensures, c.blank-line.ensures, omega arith, omega arith, made_none _ _ _ _)
 
-pub visit-column-effort-requires : goal.visit-column-effort-requires
-visit-column-effort-requires g c =
+pub visit_column-effort-requires : goal.visit_column-effort-requires
+visit_column-effort-requires g c =
     let h = c.length-height.result in
-    let part : length (take (h - 0) c.loop-j.line) ≡ h = simp length-take (omega (arith, c.loop-j.invariant.2, c.length-height.type-inv)) in
+    let part : length (take (h - 0) c.loop-j.line) ≡ h = simp length-take (omega (arith, c.loop-j.invariant.2, c.length-height.type_inv)) in
     let same : get_or (on Column c.loop-j.lines) c.loop-j.j fresh ≡ get_or (on Column c.args.lines.now) c.loop-j.j fresh = c.loop-j.invariant.5.keeping.rest c.loop-j.j (omega arith) in
     record {
-      room = omega (arith, part, c.length-height.type-inv, c.loop-j.invariant.1);
+      room = omega (arith, part, c.length-height.type_inv, c.loop-j.invariant.1);
       size = part ∙ c.length-height.ensures ∙ ap (λ x. x.size) (sym c.loop-j.invariant.0);
       whole = c.loop-j.auto.frame ∙ c.requires.size ∙ ap (λ x. x * c.args.width) (sym (part ∙ c.length-height.ensures));
       within = c.loop-j-test.true;
       narrow = c.requires.short;
-      short = omega (arith, part, c.length-height.type-inv);
+      short = omega (arith, part, c.length-height.type_inv);
       tally = omega (arith, ap (λ x. x.tally) same, c.requires.tallies c.loop-j.j);
     }
 
 pub loop-j-preserved : goal.loop-j-preserved
 loop-j-preserved g c =
     let h = c.length-height.result in
-    let small = c.length-height.type-inv in
-    let v = c.visit-column-effort in
+    let small = c.length-height.type_inv in
+    let v = c.visit_column-effort in
     let line = take (h - 0) c.loop-j.line in
     let part : length line ≡ h = simp length-take (omega (arith, c.loop-j.invariant.2)) in
     let after : length v.new.line ≡ h = v.auto.line ∙ part in

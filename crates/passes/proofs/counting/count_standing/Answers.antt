@@ -10,15 +10,15 @@ loop-i-preserved c =
     let st = c.args.standing in
     let rs = on c.args.kind c.args.lines.now in
     let within : i < length rs = omega (arith, c.at.ensures.room) in
-    let told = c.same-standing.ensures ∙ ap (λ x. is_same_standing st x.standing) c.at.ensures.value in
-    elim c.if-same-standing.branch [
-      | goal.then-same-standing w ↦ (
-        let more = count_by_more_yes (λ r. is_same_standing st r.standing) rs i fresh within (sym told ∙ w.if-same-standing.true) in
+    let told = c.same_standing.ensures ∙ ap (λ x. is_same_standing st x.standing) c.at.ensures.value in
+    elim c.if-same_standing.branch [
+      | goal.then-same_standing w ↦ (
+        let more = count_by_more_yes (λ r. is_same_standing st r.standing) rs i fresh within (sym told ∙ w.if-same_standing.true) in
             omega (arith, w.found-is, c.loop-i.invariant.0, more),
         omega (arith, w.found-is, c.loop-i.invariant.1),
       )
-      | goal.else-same-standing w ↦ (
-        let more = count_by_more_no (λ r. is_same_standing st r.standing) rs i fresh within (sym told ∙ w.if-same-standing.false) in
+      | goal.else-same_standing w ↦ (
+        let more = count_by_more_no (λ r. is_same_standing st r.standing) rs i fresh within (sym told ∙ w.if-same_standing.false) in
             w.found-is ∙ c.loop-i.invariant.0 ∙ sym more,
         omega (arith, w.found-is, c.loop-i.invariant.1),
       )

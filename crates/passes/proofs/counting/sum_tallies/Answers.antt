@@ -4,8 +4,8 @@ use Rattle.std.proofs.lemmas.List.Sums.{sum_by_more, sum_by-take-le}
 use Rattle.job_rules.specs.Records.{fresh, on, tallies}
 use Rattle.passes.proofs.counting.sum_tallies.Goals as goal
 
-pub overflow-add-sum : goal.overflow-add-sum
-overflow-add-sum c =
+pub overflow_add-sum : goal.overflow_add-sum
+overflow_add-sum c =
     let i = c.loop-i.i in
     let rs = on c.args.kind c.args.lines.now in
     let within : i < length rs = omega (arith, c.at-sum.ensures.room) in

@@ -7,8 +7,8 @@ use Rattle.job_rules.proofs.Tallies.{wd_tallies}
 use Rattle.passes.proofs.Redelivering.{delivery, opened_tallies}
 use Rattle.passes.proofs.redelivery.put_row.Goals as goal
 
-pub slice-bounds-replace-end : goal.slice-bounds-replace-end
-slice-bounds-replace-end c =
+pub slice_bounds-replace-end : goal.slice_bounds-replace-end
+slice_bounds-replace-end c =
     let w = length c.args.bytes.now in
     let e = row_end c.args.height c.args.i w c.requires.within in
     let fits : c.args.i * w + w ≤ length c.args.frame.now = omega arith in

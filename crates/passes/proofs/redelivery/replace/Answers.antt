@@ -14,8 +14,8 @@ returns-then-changed-gt0 c =
     record {
       after = search rules;
       changes = c.differences-changed.ensures;
-      own = c.open.ensures.here ∙ ap (λ x. set x c.args.i (opened (get_or x c.args.i fresh))) c.open-changed.ensures.other ∙ rw e;
-      cross = c.open.ensures.other ∙ c.open-changed.ensures.cross ∙ ap (λ x. where_differ opened x new (on Column c.args.lines.now)) whole;
+      own = c.open.ensures.here ∙ ap (λ x. set x c.args.i (opened (get_or x c.args.i fresh))) c.open_changed.ensures.other ∙ rw e;
+      cross = c.open.ensures.other ∙ c.open_changed.ensures.cross ∙ ap (λ x. where_differ opened x new (on Column c.args.lines.now)) whole;
     }
 
 pub returns-else-changed-gt0 : goal.returns-else-changed-gt0
@@ -27,6 +27,6 @@ returns-else-changed-gt0 c =
     record {
       after = search rules;
       changes = c.differences-changed.ensures;
-      own = c.open-changed.ensures.other ∙ sym (set-get_or (on Row c.args.lines.now) c.args.i fresh) ∙ rw e;
-      cross = c.open-changed.ensures.cross ∙ ap (λ x. where_differ opened x new (on Column c.args.lines.now)) whole;
+      own = c.open_changed.ensures.other ∙ sym (set-get_or (on Row c.args.lines.now) c.args.i fresh) ∙ rw e;
+      cross = c.open_changed.ensures.cross ∙ ap (λ x. where_differ opened x new (on Column c.args.lines.now)) whole;
     }

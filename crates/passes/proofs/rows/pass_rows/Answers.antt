@@ -16,8 +16,8 @@ loop-i-init g c = (refl, c.blank-old.ensures, omega arith, omega arith, made_non
 part_long : (n i w : ℕ) (frame : List ℕ) → i < n → length frame ≡ n * w → length (take (i * w + w - i * w) (drop (i * w) frame)) ≡ w
 part_long n i w frame l size = let end = row_end n i w l in simp (length-take, length-drop) (omega arith)
 
-pub slice-bounds-visit-line-end-in-loop-i : goal.slice-bounds-visit-line-end-in-loop-i
-slice-bounds-visit-line-end-in-loop-i g c =
+pub slice_bounds-visit_line-end-in-loop-i : goal.slice_bounds-visit_line-end-in-loop-i
+slice_bounds-visit_line-end-in-loop-i g c =
     let w = c.length-width.result in
     let n = c.args.height in
     let size : length c.loop-i.frame ≡ n * w = c.loop-i.auto.frame ∙ c.requires.size ∙ ap (λ z. n * z) (sym c.length-width.ensures) in
@@ -25,8 +25,8 @@ slice-bounds-visit-line-end-in-loop-i g c =
     let fits : c.loop-i.i * w + w ≤ length c.loop-i.frame = omega arith in
     search rules
 
-pub visit-line-effort-requires : goal.visit-line-effort-requires
-visit-line-effort-requires g c =
+pub visit_line-effort-requires : goal.visit_line-effort-requires
+visit_line-effort-requires g c =
     let w = c.length-width.result in
     let n = c.args.height in
     let i = c.loop-i.i in
@@ -34,7 +34,7 @@ visit-line-effort-requires g c =
     let part = part_long n i w c.loop-i.frame c.loop-i-test.true size in
     let same : get_or (on Row c.loop-i.lines) i fresh ≡ get_or (on Row c.args.lines.now) i fresh = c.loop-i.invariant.4.keeping.rest i (omega arith) in
     record {
-      room = omega (arith, part, c.length-width.type-inv, c.loop-i.invariant.1);
+      room = omega (arith, part, c.length-width.type_inv, c.loop-i.invariant.1);
       size = part ∙ c.length-width.ensures ∙ ap (λ x. x.size) (sym c.loop-i.invariant.0);
       tally = omega (arith, ap (λ x. x.tally) same, c.requires.tallies i);
     }
@@ -44,7 +44,7 @@ loop-i-preserved g c =
     let i = c.loop-i.i in
     let w = c.length-width.result in
     let n = c.args.height in
-    let v = c.visit-line-effort in
+    let v = c.visit_line-effort in
     let size : length c.loop-i.frame ≡ n * w = c.loop-i.auto.frame ∙ c.requires.size ∙ ap (λ z. n * z) (sym c.length-width.ensures) in
     let part = part_long n i w c.loop-i.frame c.loop-i-test.true size in (
       v.ensures.same ∙ c.loop-i.invariant.0,

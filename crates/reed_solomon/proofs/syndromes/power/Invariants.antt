@@ -3,4 +3,4 @@ use Rattle.fields.specs.Laws.{power}
 use Rattle.reed_solomon.proofs.syndromes.power.Given as goal
 
 abbrev pub invariant-loop-i : goal.invariant-loop-i
-invariant-loop-i g l = l.r ≡ power g.F.Field.meaning.mul l.x l.-i
+invariant-loop-i g l = l.r ≡ power g.F.Field.meaning.mul l.x l._i

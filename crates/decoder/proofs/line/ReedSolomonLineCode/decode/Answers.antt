@@ -2,4 +2,4 @@ use Rattle.std.proofs.Common.{refl}
 use Rattle.decoder.proofs.line.ReedSolomonLineCode.decode.Goals as goal
 
 pub returns : goal.returns
-returns g c = record { same = refl; answer = (c.in-ok-answer.ensures, refl) }
+returns g c = record { same = refl; answer = (c.in_ok-answer.ensures, refl) }

@@ -15,12 +15,12 @@ made frame r r' c c' m n e f = rw (e, f)
 
 pub returns : goal.returns
 returns g c =
-    let p = g.met.P.LineCode.lawful c.args.row-code in
-    let q = g.met.Q.LineCode.lawful c.args.column-code in
+    let p = g.met.P.LineCode.lawful c.args.row_code in
+    let q = g.met.Q.LineCode.lawful c.args.column_code in
     record {
-      row-code = refl;
-      column-code = refl;
-      new = λ frame. made frame _ _ _ _ (g.P.LineCode.count c.args.row-code) (g.Q.LineCode.count c.args.column-code)
-          (first (g.Q.LineCode.meaning c.args.column-code).size _ q.short c.new-lines.ensures.rows)
-          (first (g.P.LineCode.meaning c.args.row-code).size _ p.short c.new-lines.ensures.columns);
+      row_code = refl;
+      column_code = refl;
+      new = λ frame. made frame _ _ _ _ (g.P.LineCode.count c.args.row_code) (g.Q.LineCode.count c.args.column_code)
+          (first (g.Q.LineCode.meaning c.args.column_code).size _ q.short c.new-lines.ensures.rows)
+          (first (g.P.LineCode.meaning c.args.row_code).size _ p.short c.new-lines.ensures.columns);
     }

@@ -2,21 +2,27 @@ use Rattle.std.proofs.Common.{◌≡◌, sym, refl, ap, ◌∙◌, subst, arith}
 use Rattle.jobs.proofs.Delivering.{redelivered}
 use Rattle.jobs.proofs.job.Job.redeliver.Goals as goal
 
-pub overflow-add-self-2 : goal.overflow-add-self-2
-overflow-add-self-2 g c = omega (arith, c.args.self.now.redelivered, c.args.self.now.calls, c.put-row-changed.ensures.few)
+pub overflow_add-self-2 : goal.overflow_add-self-2
+overflow_add-self-2 g c = omega (arith, c.args.self.now.redelivered, c.args.self.now.calls, c.put_row-changed.ensures.few)
 
-pub invariant-of-self : goal.invariant-of-self
-invariant-of-self g c =
+pub invariant_of-self : goal.invariant_of-self
+invariant_of-self g c =
     let j = c.args.self.now in
-    let e = c.put-row-changed.ensures in
-    (omega (arith, c.args.self.now.calls), (omega (arith, j.passes), (omega (arith, j.decodings), (omega (arith, j.changes, e.rows, e.columns), (omega (arith, j.redelivered, e.few), tt)))))
+    let e = c.put_row-changed.ensures in
+    record {
+      calls = omega (arith, c.args.self.now.calls);
+      passes = omega (arith, j.passes);
+      decodings = omega (arith, j.decodings);
+      changes = omega (arith, j.changes, e.rows, e.columns);
+      redelivered = omega (arith, j.redelivered, e.few);
+    }
 
 pub returns : goal.returns
 returns g c =
     let j = c.args.self.now in
     let p = g.P.LineCode.meaning j.row_code in
     let q = g.Q.LineCode.meaning j.column_code in
-    let v = c.put-row-changed in
+    let v = c.put_row-changed in
     record {
       rows = refl;
       columns = refl;

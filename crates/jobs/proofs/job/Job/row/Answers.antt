@@ -2,8 +2,8 @@ use Rattle.std.proofs.Common.{◌≡◌, ◌+◌, ◌*◌, ◌≤◌, length, sy
 use Rattle.codes.proofs.Rows.{row_end}
 use Rattle.jobs.proofs.job.Job.row.Goals as goal
 
-pub slice-bounds-result-end : goal.slice-bounds-result-end
-slice-bounds-result-end g c =
+pub slice_bounds-result-end : goal.slice_bounds-result-end
+slice_bounds-result-end g c =
     let w = c.length-width.result in
     let h = c.length-height.result in
     let i = c.args.i in

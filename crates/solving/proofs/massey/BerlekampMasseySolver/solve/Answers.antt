@@ -11,8 +11,8 @@ returns-then-length-s g c =
     let L = c.shortest-length.result in
     let p = c.shortest-length.new.locator in
     let is : c.terms-s.result.now ≡ s = c.terms-s.ensures.value in
-    let part = length-take-le (length c.terms-s.result.now + 2 - 0) c.polynomial-room-locator-room.result
-    (omega (arith, c.terms-s.ensures.few, c.polynomial-room-locator-room.ensures)) in
+    let part = length-take-le (length c.terms-s.result.now + 2 - 0) c.polynomial_room-locator_room.result
+    (omega (arith, c.terms-s.ensures.few, c.polynomial_room-locator_room.ensures)) in
     let room : L + 1 ≤ length p = omega (arith, c.shortest-length.ensures.most, c.shortest-length.auto.locator) in
     record {
       solves = too_long m s (take (L + 1) p) L (length-take-le (L + 1) p room)
@@ -28,8 +28,8 @@ returns g c =
     let L = c.shortest-length.result in
     let p = c.shortest-length.new.locator in
     let is : c.terms-s.result.now ≡ s = c.terms-s.ensures.value in
-    let part = length-take-le (length c.terms-s.result.now + 2 - 0) c.polynomial-room-locator-room.result
-    (omega (arith, c.terms-s.ensures.few, c.polynomial-room-locator-room.ensures)) in
+    let part = length-take-le (length c.terms-s.result.now + 2 - 0) c.polynomial_room-locator_room.result
+    (omega (arith, c.terms-s.ensures.few, c.polynomial_room-locator_room.ensures)) in
     let same : L + 1 ≡ L + 1 - 0 = omega arith in
     let room : L + 1 - 0 ≤ length p = omega (arith, c.shortest-length.ensures.most, c.shortest-length.auto.locator) in
     let all : LocatesAll m s (take (L + 1 - 0) p) =
