@@ -45,7 +45,7 @@ held : Answer → Option Answer → Answer
 held d None = d
 held d (Some a) = a
 
-module _ {P Q : Type 0} (f : Ghosts P) (g : Ghosts Q) (row : P) (column : Q) (limit : ℕ) (frame frame' : List ℕ) (list list' : List Entry) (job : Job P Q)
+module _ {P Q : Type 0} (f : Ghosts P) (g : Ghosts Q) (row : P) (column : Q) (limit : ℕ) (frame frame' : List ℕ) (list list' : List Entry) (job : Job P Q f g)
     (r : Replayed f g row column frame frame' list list' job) (one : map (λ e. request_of e.call) list ≡ run limit ∷ []) (d : Entry) where
   p : Meaning
   p = f.meaning row

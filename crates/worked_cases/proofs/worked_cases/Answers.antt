@@ -61,8 +61,8 @@ mended = record {
 pub returns : goal.returns
 unfolding cap product
 returns c = record {
-  product-with-reduction = refl;
-  product-without = refl;
+  product_with_reduction = refl;
+  product_without = refl;
   codeword = plain;
   coded = λ a b. record {
     long = refl;
@@ -71,11 +71,11 @@ returns c = record {
     only = λ v w same. only v (line 0 0 1 0 7 6) w message (λ p l. same p l ∙ sym (stays a b 7 6 p l));
   };
   mended = mended;
-  stuck-by-caution = record {
+  stuck_by_caution = record {
     long = refl;
     same = refl;
     far = beyond disc_header_code (lawful disc disc_laws 6 4 0 256 header_within) 0 (line 0 0 0 1 3 18) (line 0 0 0 1 3 2) 1 mended (lit< tt);
   };
   stuck = first_stuck;
-  stuck-outside = second_stuck;
+  stuck_outside = second_stuck;
 }
