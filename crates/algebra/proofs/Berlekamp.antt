@@ -1,12 +1,12 @@
 -- The Berlekamp–Massey algorithm, without inversions, finds a shortest generator.
 use mathlib.Core.Path.{◌≡◌, refl, sym, ap, ap₂, ◌∙◌}
 use mathlib.Core.Logic.{◌⊎◌, inl, inr}
-use Prim.Native.Nat.{ℕ, zero, suc, ◌+◌, ◌-◌, ◌<◌, ◌≤◌}
-use native.Mathlib.Decide.{ℕ_discrete, dec_le, dec_lt}
+use Prim.Native.Nat.{ℕ, zero, suc, ◌+◌, ◌<◌, ◌≤◌}
+use native.Mathlib.Decide.{ℕ_discrete}
 use native.Mathlib.Omega.{arith}
 use Rattle.algebra.proofs.Field.{Field}
 use Rattle.algebra.proofs.Ring.{ring, mul_nonzero, zero_mul, mul_zero}
-use Rattle.algebra.proofs.Product.{product, rest, product_none, product_more, product_add, product_scale, product_cong}
+use Rattle.algebra.proofs.Product.{product, product_more, product_add, product_scale}
 use Rattle.algebra.proofs.Polynomials.{up}
 use Rattle.algebra.proofs.Massey.{Annihilates, Generates, massey}
 

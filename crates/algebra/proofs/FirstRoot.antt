@@ -1,11 +1,11 @@
 -- The first root b, and the places of a line: powers of a generator.
-use mathlib.Core.Path.{◌≡◌, refl, sym, ap, ap₂, subst, ◌∙◌}
-use Prim.Native.Nat.{ℕ, zero, suc, ◌+◌, ◌-◌, ◌*◌, ◌<◌, ◌≤◌}
-use native.Mathlib.Nat.{add-zero, add-suc, zero-add, suc-add, zero-mul, suc-mul}
+use mathlib.Core.Path.{◌≡◌, refl, sym, ap, ◌∙◌}
+use Prim.Native.Nat.{ℕ, zero, suc, ◌+◌, ◌*◌, ◌<◌, ◌≤◌}
+use native.Mathlib.Nat.{zero-add, suc-add, zero-mul, suc-mul}
 use native.Mathlib.Omega.{arith}
 use Rattle.algebra.proofs.Field.{Field}
-use Rattle.algebra.proofs.Ring.{ring, cancel, mul_nonzero, zero_mul as nil_mul, one_mul}
-use Rattle.algebra.proofs.Sums.{sum, sum_cong}
+use Rattle.algebra.proofs.Ring.{cancel, zero_mul as nil_mul, one_mul}
+use Rattle.algebra.proofs.Sums.{sum_cong}
 use Rattle.algebra.proofs.Places.{power, power_none, power_more, syndrome, Distinct}
 use Rattle.algebra.proofs.Locator.{power_nonzero}
 use Rattle.algebra.proofs.Weights.{weight, weight_zero, weight_more, light}

@@ -1,16 +1,16 @@
 -- The error locator: it generates the power sums, and a shortest generator has its roots.
 use mathlib.Core.Path.{◌≡◌, refl, sym, ap, ap₂, ◌∙◌}
 use mathlib.Core.Logic.{◌⊎◌, inl, inr}
-use Prim.Native.Nat.{ℕ, zero, suc, ◌+◌, ◌-◌, ◌<◌, ◌≤◌}
+use Prim.Native.Nat.{ℕ, zero, suc, ◌+◌, ◌<◌, ◌≤◌}
 use native.Mathlib.Nat.{add-zero, add-suc}
-use native.Mathlib.Decide.{ℕ_discrete, dec_le, dec_lt}
+use native.Mathlib.Decide.{ℕ_discrete, dec_lt}
 use native.Mathlib.Omega.{arith}
 use Rattle.algebra.proofs.Field.{Field}
-use Rattle.algebra.proofs.Ring.{ring, cancel, mul_nonzero, mul_left_comm, zero_mul, mul_zero}
-use Rattle.algebra.proofs.Sums.{sum, sum_none, sum_more, sum_cong, sum_zero}
+use Rattle.algebra.proofs.Ring.{ring, cancel, mul_left_comm, zero_mul, mul_zero}
+use Rattle.algebra.proofs.Sums.{sum_none, sum_more}
 use Rattle.algebra.proofs.Places.{power, power_none, power_more, eval, syndrome, Distinct, distance}
-use Rattle.algebra.proofs.Product.{product, rest, product_none, product_more, product_last, product_add, product_scale, product_cong, product_comm, product_zero}
-use Rattle.algebra.proofs.Massey.{Annihilates, Generates}
+use Rattle.algebra.proofs.Product.{product, rest, product_none, product_last, product_add, product_scale, product_cong, product_comm, product_zero}
+use Rattle.algebra.proofs.Massey.{Generates}
 use Rattle.algebra.proofs.Polynomials.{up}
 use Rattle.algebra.proofs.Berlekamp.{unit, mix, product_up, product_mix}
 use Rattle.algebra.proofs.Roots.{no_more_roots}

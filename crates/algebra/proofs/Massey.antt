@@ -1,11 +1,10 @@
 -- Shortest generators of a sequence: Massey's lemma.
-use mathlib.Core.Path.{◌≡◌, refl, sym, ap, ap₂, ◌∙◌}
-use mathlib.Core.Logic.{◌⊎◌, inl, inr}
-use Prim.Native.Nat.{ℕ, zero, suc, ◌+◌, ◌-◌, ◌<◌, ◌≤◌}
-use native.Mathlib.Decide.{ℕ_discrete, dec_le, dec_lt}
+use mathlib.Core.Path.{◌≡◌, refl, sym, ap, ◌∙◌}
+use Prim.Native.Nat.{ℕ, suc, ◌+◌, ◌<◌, ◌≤◌}
+use native.Mathlib.Decide.{dec_lt}
 use native.Mathlib.Omega.{arith}
 use Rattle.algebra.proofs.Field.{Field}
-use Rattle.algebra.proofs.Ring.{ring, mul_nonzero, zero_mul, mul_zero}
+use Rattle.algebra.proofs.Ring.{mul_nonzero, zero_mul, mul_zero}
 use Rattle.algebra.proofs.Product.{product, product_comm, product_assoc, product_zero, product_first, product_cong}
 
 module _ {F : Type 0} (K : Field F) (S : ℕ → F) where

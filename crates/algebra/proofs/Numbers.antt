@@ -1,15 +1,13 @@
 -- The bridge, on: sums and powers of numbers are those of the theory.
-use mathlib.Core.Path.{◌≡◌, refl, sym, ap, ap₂, subst, ◌∙◌}
+use mathlib.Core.Path.{◌≡◌, refl, sym, ap, ◌∙◌}
 use mathlib.Core.List.{List}
-use Prim.Native.Nat.{ℕ, zero, suc, ◌+◌, ◌-◌, ◌*◌, ◌<◌, ◌≤◌}
-use native.Mathlib.Omega.{arith}
-use lib.ListN.{length, get_or}
+use Prim.Native.Nat.{ℕ, zero, suc, ◌<◌}
+use lib.ListN.{get_or}
 use Rattle.fields.specs.Laws.{Meaning, FieldLaws}
 use Rattle.fields.specs.Laws.{power as raised}
 use Rattle.algebra.proofs.Field.{Field}
 use Rattle.algebra.specs.Sums.{sums}
-use Rattle.algebra.proofs.Sums.{sum, sum_none, sum_more, sum_cong}
-use Rattle.algebra.proofs.Places.{power}
+use Rattle.algebra.proofs.Sums.{sum, sum_none, sum_more}
 use Rattle.algebra.proofs.Elements.{Element, field, el, el_zero, el_add, some}
 
 pub sums_none : (m : Meaning) (f : ℕ → ℕ) → sums m f 0 ≡ 0

@@ -1,11 +1,11 @@
 -- The weight at one place: the power sums with the other places' weights multiplied away.
-use mathlib.Core.Path.{◌≡◌, refl, sym, ap, ap₂, ◌∙◌}
-use Prim.Native.Nat.{ℕ, zero, suc, ◌+◌, ◌-◌, ◌<◌, ◌≤◌}
+use mathlib.Core.Path.{◌≡◌, refl, sym, ap, ◌∙◌}
+use Prim.Native.Nat.{ℕ, zero, suc, ◌<◌, ◌≤◌}
 use native.Mathlib.Decide.{ℕ_discrete}
 use native.Mathlib.Omega.{arith}
 use Rattle.algebra.proofs.Field.{Field}
-use Rattle.algebra.proofs.Ring.{ring, cancel, mul_nonzero, same_of_sum, mul_zero, zero_mul}
-use Rattle.algebra.proofs.Sums.{sum, sum_cong, sum_single}
+use Rattle.algebra.proofs.Ring.{ring, mul_nonzero, same_of_sum, mul_zero, zero_mul}
+use Rattle.algebra.proofs.Sums.{sum_cong, sum_single}
 use Rattle.algebra.proofs.Places.{power, power_none, syndrome, syndrome_step, Distinct}
 
 module _ {F : Type 0} (K : Field F) where

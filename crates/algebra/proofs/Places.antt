@@ -1,12 +1,11 @@
 -- Weighted power sums S_i = Σ_j Y_j X_j^i at different places X_j, and what they say of the weights Y_j.
 use mathlib.Core.Path.{◌≡◌, refl, sym, ap, ap₂, ◌∙◌}
-use Prim.Native.Nat.{ℕ, zero, suc, ◌+◌, ◌<◌, ◌≤◌}
-use native.Mathlib.Nat.{add-suc}
+use Prim.Native.Nat.{ℕ, zero, suc, ◌<◌, ◌≤◌}
 use native.Mathlib.Decide.{ℕ_discrete}
 use native.Mathlib.Omega.{arith}
 use Rattle.algebra.proofs.Field.{Field}
 use Rattle.algebra.proofs.Ring.{ring, cancel, same_of_sum}
-use Rattle.algebra.proofs.Sums.{sum, sum_none, sum_more, sum_cong, sum_zero, sum_add, sum_scale, sum_swap, sum_front}
+use Rattle.algebra.proofs.Sums.{sum, sum_more, sum_cong, sum_zero, sum_add, sum_scale, sum_swap, sum_front}
 
 module _ {F : Type 0} (K : Field F) where
   open K use {zero as 𝟘, one as 𝟙, add as ◌⊕◌, mul as ◌⊗◌}

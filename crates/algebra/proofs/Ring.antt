@@ -1,7 +1,5 @@
 -- The laws of a field of characteristic 2.
-use mathlib.Core.Path.{◌≡◌, refl, sym, ap, ap₂, ◌∙◌}
-use Prim.Native.Nat.{ℕ, zero, suc, ◌+◌, ◌<◌, ◌≤◌}
-use native.Mathlib.Omega.{arith}
+use mathlib.Core.Path.{◌≡◌, sym, ap, ap₂, ◌∙◌}
 use Rattle.algebra.proofs.Field.{Field}
 
 module _ {F : Type 0} (K : Field F) where

@@ -8,12 +8,12 @@ use native.Mathlib.Decide.{dec_lt}
 use native.Mathlib.Omega.{arith}
 use lib.Dec.{eqb}
 use lib.ListN.{length, get_or}
-use borrow.Author.Tests.{eq-eqb, eqb-true}
+use borrow.Author.Tests.{eqb-true}
 use Rattle.fields.specs.Laws.{Meaning, FieldLaws}
 use Rattle.fields.specs.Laws.{power as raised}
 use Rattle.algebra.proofs.Field.{Field}
 use Rattle.algebra.specs.Sums.{sums, value, coefficient}
-use Rattle.algebra.specs.Lines.{Elements, locator, syndrome}
+use Rattle.algebra.specs.Lines.{locator}
 use Rattle.algebra.specs.Theorems.{ExchangeOfSums, FewRoots, FunctionalOverSyndromes, nonzero, MinimumDistance, Generates, ShortestRecurrences}
 use Rattle.algebra.proofs.Sums.{sum, sum_cong, sum_swap}
 use Rattle.algebra.proofs.Places.{power, eval, functional, Distinct}
@@ -24,7 +24,7 @@ use Rattle.algebra.proofs.Massey.{Generates as GeneratesSequence}
 use Rattle.algebra.proofs.Roots.{no_more_roots}
 use Rattle.algebra.proofs.Weights.{weight}
 use Rattle.algebra.proofs.FirstRoot.{from, from_is, syndrome_from, light_from, weight_front_zero, weight_front_more}
-use Rattle.algebra.proofs.Elements.{Element, el_zero, el_mul, el_power, el_same, el_none, el_some}
+use Rattle.algebra.proofs.Elements.{Element, el_zero, el_mul, el_power, el_same, el_none}
 use Rattle.algebra.proofs.Numbers.{K, ⟨◌⟩, at, at_is, el_sums, sums_below}
 use Rattle.algebra.proofs.Lines.{place, place_number, el_syndrome, places_apart, places_nonzero}
 

@@ -1,5 +1,5 @@
 -- Lines: at how many places two differ, and that each number is below a limit.
-use Rattle.std.proofs.Common.{◌≡◌, ℕ, zero, suc, ◌+◌, ◌<◌, ◌≤◌, Bool, true, false, cond, eqb, List, [], ◌∷◌, length, get_or, set, sym, refl, ap, ◌∙◌, arith, eq-eqb, eqb-true}
+use Rattle.std.proofs.Common.{◌≡◌, ℕ, zero, suc, ◌+◌, ◌<◌, ◌≤◌, Bool, true, false, cond, eqb, List, [], ◌∷◌, length, get_or, sym, refl, ◌∙◌, arith, eq-eqb, eqb-true}
 use Rattle.codes.specs.Meaning.{differ, Below}
 
 pub below_at : (q : ℕ) (xs : List ℕ) → Below q xs → (i : ℕ) → i < length xs → get_or xs i 0 < q

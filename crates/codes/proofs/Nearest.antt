@@ -1,5 +1,5 @@
 -- At most one codeword is in reach of a line.
-use Rattle.std.proofs.Common.{◌≡◌, ℕ, ◌+◌, ◌<◌, ◌≤◌, min, List, length, Ok, Err, Result, sym, ap, ◌∙◌, arith}
+use Rattle.std.proofs.Common.{◌≡◌, ℕ, ◌<◌, ◌≤◌, min, List, length, Ok, Err, Result, sym, ap, ◌∙◌, arith}
 use Rattle.codes.specs.Meaning.{Meaning, Lawful, Word, InReach, differ}
 use Rattle.codes.specs.Answers.{Mends, Answers}
 use Rattle.codes.specs.Recovery.{Recovers}

@@ -1,5 +1,5 @@
 -- The division by the generator polynomial leaves symbols that make a codeword.
-use Rattle.std.proofs.Common.{◌≡◌, ℕ, zero, suc, ◌+◌, ◌-◌, ◌*◌, ◌<◌, ◌≤◌, Bool, true, false, cond, eqb, List, [], ◌∷◌, length, get_or, take, set, sym, refl, ap, ◌∙◌, subst, ap₂, mul_comm, add-one, arith, length-set, length-take-le, get_or-set_other, get_or-take, get_or-set_same, eq-eqb}
+use Rattle.std.proofs.Common.{◌≡◌, ℕ, zero, suc, ◌+◌, ◌-◌, ◌<◌, ◌≤◌, Bool, true, false, cond, eqb, List, [], ◌∷◌, length, get_or, take, set, sym, refl, ap, ◌∙◌, subst, ap₂, mul_comm, add-one, arith, length-set, length-take-le, get_or-set_other, get_or-take, get_or-set_same, eq-eqb}
 use Rattle.fields.specs.Laws.{Meaning, FieldLaws}
 use Rattle.fields.specs.Laws.{power as raised}
 use Rattle.algebra.proofs.Field.{Field}
@@ -13,7 +13,7 @@ use Rattle.algebra.proofs.Encoder.{generator, generator_more, generator_lead, ge
 use Rattle.algebra.proofs.Elements.{Element, some, el_zero, el_one, el_add, el_mul, el_power, el_same, el_none}
 use Rattle.algebra.proofs.Numbers.{K, ⟨◌⟩, at, at_is, el_sums, sums_below}
 use Rattle.codes.specs.Meaning.{differ, Below}
-use Rattle.algebra.specs.Sums.{sums, value}
+use Rattle.algebra.specs.Sums.{value}
 use Rattle.algebra.specs.Lines.{Elements, syndrome}
 use Rattle.algebra.proofs.Theorems.{el_value, value_below}
 use Rattle.algebra.proofs.Lines.{place, el_syndrome}
@@ -24,7 +24,7 @@ use native.Mathlib.Decide.{dec_lt}
 use Rattle.reed_solomon.proofs.Apart.{close_same, word_to, word_from}
 use Rattle.reed_solomon.proofs.Differ.{all_below}
 use Rattle.coding.specs.Coding.{SameMessage, Codes}
-use Rattle.coding.specs.Division.{Zero, shifted, Shifts, root, Generator, Remains, Completed}
+use Rattle.coding.specs.Division.{Zero, shifted, root, Generator, Remains, Completed}
 use Rattle.coding.proofs.Register.{at_root, Multiplied, Fed}
 
 -- the polynomial 1 has elements for coefficients

@@ -1,5 +1,5 @@
 -- The front of a list.
-use Rattle.std.proofs.Common.{◌≡◌, ℕ, ◌-◌, ◌<◌, ◌≤◌, List, length, get_or, take, sym, ap, ◌∙◌, arith, length-take-le, get_or-take}
+use Rattle.std.proofs.Common.{◌≡◌, ℕ, ◌-◌, ◌<◌, ◌≤◌, List, length, get_or, take, ap, ◌∙◌, arith, length-take-le, get_or-take}
 
 pub front_length : (front xs : List ℕ) (n : ℕ) → front ≡ take (n - 0) xs → n ≤ length xs → length front ≡ n
 front_length front xs n e l = ap length e ∙ length-take-le (n - 0) xs (omega arith) ∙ omega arith

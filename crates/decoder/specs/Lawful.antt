@@ -1,5 +1,5 @@
 -- A Reed–Solomon code is lawful as a line code, and its codewords are recovered.
-use Rattle.std.specs.Prelude.{◌≡◌, ℕ, ◌-◌, ◌*◌, ◌/◌, ◌≤◌, List}
+use Rattle.std.specs.Prelude.{ℕ, ◌-◌, ◌/◌, ◌≤◌}
 use Rattle.std.proofs.Common.{arith}
 use Rattle.fields.specs.Laws.{Meaning, FieldLaws}
 use Rattle.codes.specs.Meaning.{Lawful}

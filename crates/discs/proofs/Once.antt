@@ -1,5 +1,5 @@
 -- A replayed list with one call, a run: its answer is a run's.
-use Rattle.std.proofs.Common.{◌≡◌, ℕ, List, [], ◌∷◌, map, length, get_or, Some, None, Ok, Err, Option, Result, sym, refl, ap, ◌∙◌, subst, arith}
+use Rattle.std.proofs.Common.{◌≡◌, ℕ, List, [], ◌∷◌, map, length, get_or, Some, None, Ok, Err, Option, Result, sym, ap, ◌∙◌, subst, arith}
 use Rattle.codes.specs.Meaning.{Meaning}
 use Rattle.job_rules.specs.declared.answers.RunAnswer.{RunAnswer}
 use Rattle.job_rules.specs.declared.answers.Refusal.{Refusal}

@@ -1,6 +1,6 @@
 -- A line with a codeword in reach: what the parts find leads to that codeword.
-use Rattle.std.proofs.Common.{◌≡◌, ℕ, zero, suc, ◌+◌, ◌-◌, ◌*◌, ◌/◌, ◌<◌, ◌≤◌, Bool, true, false, cond, eqb, List, [], ◌∷◌, length, get_or, sym, refl, ap, ◌∙◌, subst, ap₂, add-one, arith, eq-eqb, eqb-true}
-use native.Mathlib.Decide.{ℕ_discrete, dec_lt}
+use Rattle.std.proofs.Common.{◌≡◌, ℕ, suc, ◌+◌, ◌-◌, ◌<◌, ◌≤◌, Bool, true, false, List, length, get_or, sym, refl, ap, ◌∙◌, subst, ap₂, arith, eq-eqb, eqb-true}
+use native.Mathlib.Decide.{ℕ_discrete}
 use Rattle.std.proofs.lemmas.List.{ext_get_or}
 use Rattle.fields.specs.Laws.{Meaning, FieldLaws}
 use Rattle.fields.specs.Laws.{power as raised}
@@ -12,7 +12,7 @@ use Rattle.algebra.proofs.Places.{syndrome as theirs}
 use Rattle.algebra.proofs.Locator.{inv_same, power_nonzero}
 use Rattle.algebra.proofs.Weights.{weight, sparse, Sparse, sums_of_error}
 use Rattle.algebra.proofs.FirstRoot.{from, from_zero, from_back, from_is, syndrome_from}
-use Rattle.algebra.proofs.Elements.{Element, el_of, el_number, el_zero, el_add, el_mul, el_inv, el_power, el_same, el_none, el_some}
+use Rattle.algebra.proofs.Elements.{Element, el_of, el_zero, el_add, el_mul, el_inv, el_power, el_same}
 use Rattle.codes.specs.Meaning.{differ, Below}
 use Rattle.algebra.specs.Lines.{syndrome}
 use Rattle.reed_solomon.specs.Words.{zeros}
@@ -23,7 +23,7 @@ use Rattle.algebra.proofs.Numbers.{K, ⟨◌⟩, at, sums_below, power_below}
 use Rattle.algebra.proofs.Lines.{place, place_number, el_syndrome, places_apart, places_some}
 use Rattle.reed_solomon.proofs.Differ.{error, weight_differ, below_at}
 use Rattle.reed_solomon.proofs.Apart.{no_sums}
-use Rattle.solving.proofs.Promise.{el_power_sum, value_below}
+use Rattle.solving.proofs.Promise.{el_power_sum}
 use Rattle.errors.proofs.Listed.{lists_sum, count_weight}
 use Rattle.errors.proofs.Patched.{patched_at, patched_other, patched_length}
 

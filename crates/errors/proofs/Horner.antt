@@ -1,13 +1,13 @@
 -- A polynomial's value at an inverse, by Horner's rule from the lowest coefficient on.
-use Rattle.std.proofs.Common.{◌≡◌, ℕ, zero, suc, ◌+◌, ◌-◌, ◌<◌, ◌≤◌, Bool, true, false, eqb, List, length, get_or, sym, refl, ap, ◌∙◌, subst, ap₂, arith, eq-eqb, eqb-true}
+use Rattle.std.proofs.Common.{◌≡◌, ℕ, zero, suc, ◌<◌, Bool, true, false, eqb, List, get_or, sym, refl, ap, ◌∙◌, arith, eq-eqb, eqb-true}
 use native.Mathlib.Decide.{ℕ_discrete}
 use Rattle.fields.specs.Laws.{Meaning, FieldLaws}
 use Rattle.algebra.proofs.Field.{Field}
-use Rattle.algebra.proofs.Ring.{ring, cancel, mul_zero}
+use Rattle.algebra.proofs.Ring.{cancel, mul_zero}
 use Rattle.algebra.proofs.Product.{product, product_none}
 use Rattle.algebra.proofs.Places.{power, power_none, eval}
 use Rattle.algebra.proofs.Locator.{powers_more, powers_eval, power_nonzero}
-use Rattle.algebra.proofs.Elements.{Element, some, el_zero, el_add, el_mul, el_inv, el_same, el_none, el_some}
+use Rattle.algebra.proofs.Elements.{Element, some, el_zero, el_add, el_mul, el_inv, el_none, el_some}
 use Rattle.algebra.specs.Sums.{value}
 use Rattle.algebra.proofs.Numbers.{K, ⟨◌⟩, at}
 use Rattle.solving.proofs.Promise.{el_value, value_below}

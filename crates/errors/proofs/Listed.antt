@@ -1,7 +1,7 @@
 -- Lists of the numbers below n that have a property.
-use Rattle.std.proofs.Common.{◌≡◌, ℕ, zero, suc, ◌+◌, ◌-◌, ◌<◌, ◌≤◌, Bool, true, false, cond, List, length, get_or, set, sym, refl, ap, ◌∙◌, subst, ap₂, arith, get_or-set_other, get_or-set_same}
+use Rattle.std.proofs.Common.{◌≡◌, ℕ, zero, suc, ◌+◌, ◌-◌, ◌<◌, ◌≤◌, Bool, true, false, cond, List, length, get_or, set, sym, refl, ap, ◌∙◌, ap₂, arith, get_or-set_other, get_or-set_same}
 use mathlib.Core.Path.{transport}
-use native.Mathlib.Decide.{ℕ_discrete, dec_lt}
+use native.Mathlib.Decide.{ℕ_discrete}
 use Rattle.algebra.proofs.Field.{Field}
 use Rattle.algebra.proofs.Sums.{sum, sum_none, sum_more, sum_cong, sum_zero}
 use Rattle.algebra.proofs.Weights.{weight, weight_zero, weight_more}

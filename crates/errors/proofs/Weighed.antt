@@ -1,15 +1,14 @@
 -- The weight at a found place, on numbers.
-use Rattle.std.proofs.Common.{◌≡◌, ℕ, zero, suc, ◌+◌, ◌-◌, ◌<◌, ◌≤◌, ◌⊎◌, List, length, get_or, sym, refl, ap, ◌∙◌, subst, ap₂, inl, inr, add-one, arith}
+use Rattle.std.proofs.Common.{◌≡◌, ℕ, suc, ◌+◌, ◌<◌, ◌≤◌, ◌⊎◌, List, length, get_or, sym, ap, ◌∙◌, ap₂, inl, inr, add-one, arith}
 use Rattle.fields.specs.Laws.{Meaning, FieldLaws}
 use Rattle.fields.specs.Laws.{power as raised}
 use Rattle.algebra.proofs.Field.{Field}
-use Rattle.algebra.proofs.Places.{power, syndrome, Distinct}
+use Rattle.algebra.proofs.Places.{power, Distinct}
 use Rattle.algebra.proofs.Locator.{power_nonzero}
 use Rattle.algebra.proofs.Peel.{peeled, peeled_none, peeled_skip, peeled_more, left, left_none, left_skip, left_more, left_all, own, shorten}
 use Rattle.algebra.proofs.Elements.{Element, el_one, el_add, el_mul, el_inv, el_power, el_same, el_some}
 use Rattle.errors.specs.Places.{Weighs}
-use Rattle.solving.specs.Solving.{power_sum}
-use Rattle.algebra.proofs.Numbers.{K, ⟨◌⟩, at}
+use Rattle.algebra.proofs.Numbers.{K, ⟨◌⟩}
 use Rattle.solving.proofs.Promise.{el_power_sum}
 
 module _ (m : Meaning) (t : FieldLaws m) (X : ℕ → ℕ) (w j : ℕ) where

@@ -1,5 +1,5 @@
 -- The wrong places of a line, and the values there.
-use Rattle.std.specs.Prelude.{◌≡◌, ℕ, zero, suc, ◌+◌, ◌<◌, Bool, true, cond, List, length, set, ◌==◌, slice_index, slice_set}
+use Rattle.std.specs.Prelude.{◌≡◌, ℕ, zero, suc, ◌+◌, ◌<◌, Bool, true, cond, List, length, ◌==◌, slice_index, slice_set}
 use Rattle.fields.specs.Laws.{Meaning, power}
 use Rattle.algebra.specs.Sums.{value}
 use Rattle.solving.specs.Solving.{power_sum}

@@ -1,7 +1,7 @@
 -- What the calls answer where a number is no element.
 use mathlib.Core.Path.{◌≡◌, ap, ◌∙◌}
 use mathlib.Core.Logic.{◌⊎◌, inl, inr}
-use Prim.Native.Nat.{ℕ, ◌<◌, ◌≤◌}
+use Prim.Native.Nat.{ℕ, ◌≤◌}
 use Rattle.fields.specs.Laws.{Meaning, FieldLaws}
 
 module _ (m : Meaning) (l : FieldLaws m) where

@@ -3,8 +3,7 @@ use mathlib.Core.Path.{◌≡◌, refl, sym, ap, ap₂, subst, ◌∙◌}
 use Prim.Native.Nat.{ℕ, zero, suc, ◌+◌, ◌-◌, ◌*◌, ◌/◌, ◌%◌, ◌^◌, ◌<◌, ◌≤◌}
 use native.Mathlib.Nat.{mul_assoc, mul-one, suc-add, zero-add, add_comm, pow-suc}
 use native.Mathlib.Omega.{arith}
-use lib.Bits.{bit_xor, xor_assoc, xor_comm, xor_self, xor_zero_r, xor_lt}
-use lib.Dec.{lit<}
+use lib.Bits.{bit_xor, xor_assoc, xor_self, xor_zero_r, xor_lt}
 use Rattle.fields.specs.Binary.{keep, times, shift, product, carryless, Multiple, none, more, Remainder, Reduced}
 use Rattle.fields.specs.Capped.{mul_in}
 use Rattle.fields.specs.Computed.{Tests, elements, laws, log, facts}

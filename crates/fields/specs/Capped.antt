@@ -1,9 +1,9 @@
 -- The laws of a field on its elements hold of every number, where one that is no element counts as 0.
 use Rattle.std.specs.Prelude.{◌≡◌, refl, Bool, true, false, T, ltb, ◌⊎◌}
-use Rattle.std.proofs.Common.{sym, ◌∙◌, subst, arith, ltb→lt, lt→ltb, lt-ltb, le-ltb, inl, inr}
+use Rattle.std.proofs.Common.{sym, ◌∙◌, arith, ltb→lt, lt-ltb, le-ltb, inl, inr}
 use Rattle.std.proofs.Math.Path.{ap, ap₂}
 use Rattle.std.proofs.Math.Bool.{cond}
-use Prim.Native.Nat.{ℕ, zero, suc, ◌-◌, ◌<◌, ◌≤◌}
+use Prim.Native.Nat.{ℕ, zero, suc, ◌<◌, ◌≤◌}
 use Rattle.fields.specs.Laws.{Meaning, FieldLaws, capped, cap, power}
 use Rattle.fields.specs.OnElements.{LawsOnElements}
 

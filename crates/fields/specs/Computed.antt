@@ -1,8 +1,8 @@
 -- A field of 2^m elements from tables of its powers and logarithms: the tests that the checker computes, and what they give.
-use Rattle.std.specs.Prelude.{◌≡◌, refl, Bool, true, false, List, [], ◌∷◌, T, eqb, ltb, length}
+use Rattle.std.specs.Prelude.{◌≡◌, Bool, true, false, List, [], ◌∷◌, T, eqb, ltb, length}
 use Rattle.std.proofs.Math.Path.{sym, ap}
-use Rattle.std.proofs.Common.{ap₂, ◌∙◌, le_of_suc-le-suc, not-suc-le-zero, mod-lt, ltb→lt}
-use Prim.Native.Nat.{ℕ, zero, suc, ◌+◌, ◌-◌, ◌%◌, ◌^◌, ◌<◌, ◌≤◌}
+use Rattle.std.proofs.Common.{◌∙◌, not-suc-le-zero, mod-lt, ltb→lt}
+use Prim.Native.Nat.{ℕ, zero, suc, ◌-◌, ◌%◌, ◌^◌, ◌<◌}
 use Rattle.std.proofs.Math.Nat.{zero-div}
 use native.Mathlib.Omega.{arith}
 use Rattle.std.specs.Int.Bits.{bit_xor}
@@ -10,7 +10,7 @@ use Rattle.std.proofs.Math.ListN.{get_or}
 use Rattle.fields.specs.Binary.{times, shift, keep, product, inverse}
 use Rattle.fields.specs.Shifting.{Closed}
 use Rattle.fields.specs.Laws.{Meaning, power}
-use Rattle.fields.specs.OnElements.{LawsOnElements, inv_unique}
+use Rattle.fields.specs.OnElements.{LawsOnElements}
 use Rattle.fields.specs.Each.{each, same, less}
 use Rattle.fields.specs.Cyclic.{Cyclic, iter, shift_linear}
 use Rattle.fields.specs.Cyclic as cyclic

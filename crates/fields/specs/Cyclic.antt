@@ -1,6 +1,6 @@
 -- The laws of a field of 2^m elements from a few facts on its product by x.
 use Rattle.std.specs.Prelude.{◌≡◌, refl, ◌⊎◌, ℕ, zero, suc, ◌+◌, ◌-◌, ◌*◌, ◌/◌, ◌%◌, ◌^◌, ◌<◌, ◌≤◌}
-use Rattle.std.proofs.Common.{sym, ap, ap₂, ◌∙◌, subst, inl, inr, zero-add, suc-add, add_assoc, add_comm, mod-lt, not-suc-le-zero, le_of_suc-le-suc, zero-mul, suc-mul, mul_comm, add-zero, div-lt_iff_lt-mul, arith, lit<, pow_pos}
+use Rattle.std.proofs.Common.{sym, ap, ap₂, ◌∙◌, subst, inl, inr, zero-add, suc-add, add_comm, mod-lt, zero-mul, suc-mul, mul_comm, add-zero, div-lt_iff_lt-mul, arith, lit<, pow_pos}
 use Rattle.std.proofs.Math.Nat.{mod-add-div'}
 use Rattle.std.specs.Int.Bits.{bit_xor, xor_assoc, xor_self, xor_zero_r}
 use Rattle.std.proofs.lemmas.Nat.{xor_comm, xor_lt, xor_mod, xor_shr, xor_block}

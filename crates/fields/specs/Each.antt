@@ -1,5 +1,5 @@
 -- A test at each number below n that the checker computes, and what it says of each.
-use Rattle.std.specs.Prelude.{Bool, true, false, ℕ, zero, suc, ◌<◌, ◌≤◌, ◌≡◌, refl, ◌⊎◌, T, eqb, ltb}
+use Rattle.std.specs.Prelude.{Bool, true, false, ℕ, zero, suc, ◌<◌, ◌≡◌, refl, ◌⊎◌, T, eqb, ltb}
 use Rattle.std.proofs.Common.{not-suc-le-zero, le_of_suc-le-suc, arith, sym, subst, ap, inl, inr, eqb→eq, ltb→lt}
 
 abbrev pub both : Bool → Bool → Bool

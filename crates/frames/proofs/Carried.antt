@@ -1,10 +1,10 @@
 -- A frame coded rows first and then columns carries its message, and no other frame does.
-use Rattle.std.proofs.Common.{◌≡◌, ℕ, ◌+◌, ◌-◌, ◌*◌, ◌<◌, ◌≤◌, List, length, get_or, sym, refl, ap, ◌∙◌, subst, arith}
+use Rattle.std.proofs.Common.{◌≡◌, ℕ, ◌*◌, ◌<◌, List, length, get_or, sym, ap, ◌∙◌, subst, arith}
 use Rattle.std.proofs.lemmas.List.{ext_get_or}
 use Rattle.fields.specs.Laws.{Meaning, FieldLaws}
 use Rattle.codes.specs.Meaning.{Word}
 use Rattle.codes.specs.Frames.{row, column}
-use Rattle.codes.proofs.Places.{column_at, column_long, column_is}
+use Rattle.codes.proofs.Places.{column_at}
 use Rattle.codes.proofs.Views.{row_at, row_long, columns_show}
 use Rattle.reed_solomon.specs.Numbers.{Within}
 use Rattle.reed_solomon.specs.Words.{reed_solomon_code}

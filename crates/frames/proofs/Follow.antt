@@ -1,5 +1,5 @@
 -- In a frame whose columns are codewords, the rows past the message are codewords because those of the message are.
-use Rattle.std.proofs.Common.{◌≡◌, ℕ, zero, suc, ◌+◌, ◌-◌, ◌*◌, ◌<◌, ◌≤◌, Bool, true, false, cond, eqb, List, [], ◌∷◌, map, length, get_or, sym, refl, ap, ◌∙◌, subst, ap₂, arith, eq-eqb}
+use Rattle.std.proofs.Common.{◌≡◌, ℕ, zero, suc, ◌+◌, ◌-◌, ◌*◌, ◌<◌, ◌≤◌, Bool, true, false, cond, eqb, List, [], ◌∷◌, map, length, get_or, sym, ap, ◌∙◌, subst, ap₂, arith, eq-eqb}
 use Rattle.std.specs.List.{range_with_len}
 use Rattle.std.proofs.lemmas.List.FromFn.{get_or-map-range_with_len, length-map-range_with_len}
 use Rattle.fields.specs.Laws.{Meaning, FieldLaws, power}
@@ -8,12 +8,11 @@ use Rattle.algebra.specs.Lines.{term, syndrome}
 use Rattle.algebra.specs.Theorems.{nonzero}
 use Rattle.algebra.proofs.Numbers.{sums_none, sums_more, sums_below}
 use Rattle.algebra.proofs.Theorems.{exchange, minimum_distance}
-use Rattle.codes.specs.Meaning.{Word, Below}
+use Rattle.codes.specs.Meaning.{Below}
 use Rattle.codes.specs.Frames.{row, column}
 use Rattle.codes.proofs.Places.{column_at, column_long}
 use Rattle.codes.proofs.Views.{row_at, row_long}
-use Rattle.reed_solomon.specs.Numbers.{Within}
-use Rattle.reed_solomon.specs.Words.{zeros, reed_solomon_code}
+use Rattle.reed_solomon.specs.Words.{zeros}
 use Rattle.reed_solomon.proofs.Apart.{word_to, word_from}
 use Rattle.reed_solomon.proofs.Differ.{below_at, all_below}
 use Rattle.reed_solomon.proofs.Zeros.{zeros_all, zeros_each}

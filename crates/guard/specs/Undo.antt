@@ -1,5 +1,5 @@
 -- Undoing changes of a line from the notes taken of them.
-use Rattle.std.specs.Prelude.{List, ℕ, zero, suc, ◌<◌, ◌≤◌, get_or, set, length}
+use Rattle.std.specs.Prelude.{List, ℕ, zero, suc, ◌<◌, ◌≤◌, get_or, set}
 
 -- the line with the last n noted bytes put back, the newest first
 abbrev pub undo : List ℕ → List ℕ → ℕ → List ℕ → List ℕ

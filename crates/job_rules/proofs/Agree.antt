@@ -1,8 +1,8 @@
 -- What a job does, the thorough reader does too, line by line.
-use Rattle.std.proofs.Common.{◌≡◌, ℕ, zero, suc, ◌+◌, ◌*◌, ◌<◌, ◌≤◌, Bool, true, false, cond, not, ◌&&◌, eqb, ◌⊎◌, List, [], ◌∷◌, length, get_or, set, sym, refl, ap, ◌∙◌, subst, inl, inr, add-zero, arith}
+use Rattle.std.proofs.Common.{◌≡◌, ℕ, zero, suc, ◌+◌, ◌<◌, ◌≤◌, Bool, true, false, cond, not, eqb, ◌⊎◌, List, ◌∷◌, length, get_or, set, sym, refl, ap, ◌∙◌, subst, inl, inr, add-zero, arith}
 use Rattle.std.proofs.lemmas.List.{set-get_or, get_or-set_same, get_or-set_other}
 use Rattle.std.proofs.lemmas.Bool.{cases_eq}
-use Rattle.codes.specs.Meaning.{Meaning, Word, differ}
+use Rattle.codes.specs.Meaning.{Meaning}
 use Rattle.codes.specs.Answers.{Decodes}
 use Rattle.codes.specs.declared.Decoded.{Decoded}
 use Rattle.codes.specs.declared.Decoded.TheVariants.{Mended, Stuck}
@@ -11,13 +11,13 @@ use Rattle.job_rules.specs.declared.records.Standing.TheVariants.{Open, Sound, S
 use Rattle.job_rules.specs.declared.records.Record.{Record}
 use Rattle.job_rules.specs.declared.records.Kind.{Kind}
 use Rattle.job_rules.specs.Records.{fresh, opened, is_same_standing, crossing}
-use Rattle.job_rules.specs.Lines.{decided, where_differ, Seen, Becomes, Decoding, InOrder}
+use Rattle.job_rules.specs.Lines.{decided, where_differ, Seen, Decoding, InOrder}
 use Rattle.job_rules.specs.Passes.{Progress, Turn, turn}
 use Rattle.job_rules.specs.Reader.{Log, decoded, unchanged, rewritten, Headway, Reading}
 use Rattle.job_rules.proofs.Places.{wd_self, wd_at}
 use Rattle.job_rules.proofs.Differ.{differ_same}
 use Rattle.job_rules.proofs.Logs.{after, decoded_own, decoded_other, decoded_across}
-use Rattle.job_rules.proofs.Settled.{Settles, Crosses, Settled, decodes_long, turn_settles, decoding_settles}
+use Rattle.job_rules.proofs.Settled.{Settles, Crosses, Settled, decodes_long, turn_settles}
 
 -- a line that is not open
 abbrev pub done : Record → Bool

@@ -1,5 +1,5 @@
 -- The first question that is answered no.
-use Rattle.std.proofs.Common.{◌≡◌, ℕ, Bool, true, false, cond, List, [], ◌∷◌, ◌++◌, Some, None, Option, sym, refl, ap, ◌∙◌, subst, arith}
+use Rattle.std.proofs.Common.{◌≡◌, ℕ, Bool, true, false, cond, List, [], ◌∷◌, ◌++◌, Some, None, Option, refl, ap, ◌∙◌, arith}
 use Rattle.job_rules.specs.declared.answers.Refusal.{Refusal}
 use Rattle.job_rules.specs.Questions.{Question, first_no}
 use Rattle.job_rules.specs.Laws.{AllYes, FirstNo, FirstNoRefuses}

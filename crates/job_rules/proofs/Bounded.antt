@@ -1,8 +1,8 @@
 -- How large the counts of a job can grow.
-use Rattle.std.proofs.Common.{◌≡◌, ℕ, zero, suc, ◌+◌, ◌*◌, ◌^◌, ◌<◌, ◌≤◌, ◌⊎◌, List, [], ◌∷◌, length, replicate, Some, None, sum_by, Option, sym, refl, ap, ◌∙◌, subst, inl, inr, mul-le-mul_right, mul-le-mul_left, arith}
+use Rattle.std.proofs.Common.{◌≡◌, ℕ, zero, suc, ◌+◌, ◌*◌, ◌≤◌, List, [], ◌∷◌, replicate, Some, None, Option, sym, refl, ap, ◌∙◌, subst, inl, inr, mul-le-mul_right, mul-le-mul_left, arith}
 use Rattle.std.proofs.lemmas.List.Sums.{sum_by-cons}
 use Rattle.std.proofs.lemmas.List.{length-replicate}
-use Rattle.codes.specs.Meaning.{Meaning, Lawful, differ}
+use Rattle.codes.specs.Meaning.{Meaning, Lawful}
 use Rattle.job_rules.specs.declared.records.Kind.{Kind}
 use Rattle.job_rules.specs.declared.records.Kind.TheVariants.{Row, Column}
 use Rattle.job_rules.specs.declared.answers.Effort.{Effort}
@@ -13,7 +13,7 @@ use Rattle.job_rules.specs.Bounds.{most_lines, most_changes, Low}
 use Rattle.job_rules.specs.Questions.{Request, pass, run, redeliver, refusal, lines, highest_limit, most_calls}
 use Rattle.job_rules.specs.Lines.{row, code}
 use Rattle.job_rules.specs.Passes.{State, start, seen, Pass}
-use Rattle.job_rules.specs.Calls.{Work, Goes, Runs, Redelivery, called, Accepts, Does', Step, Performs, final, report}
+use Rattle.job_rules.specs.Calls.{Work, Runs, Redelivery, called, Accepts, Does', Step, Performs, final, report}
 use Rattle.job_rules.specs.Laws.{Shaped, CountsStayLow}
 use Rattle.job_rules.proofs.Differ.{differ_le}
 use Rattle.job_rules.proofs.Either.{lawful}

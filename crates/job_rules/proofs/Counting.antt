@@ -1,5 +1,5 @@
 -- The counts of the two codes grow together by the decodings.
-use Rattle.std.proofs.Common.{◌≡◌, ℕ, zero, suc, ◌+◌, ◌%◌, ◌^◌, ◌<◌, ◌≤◌, ◌⊎◌, List, get_or, Some, None, Option, sym, refl, ap, ◌∙◌, subst, inl, inr, arith}
+use Rattle.std.proofs.Common.{◌≡◌, ℕ, zero, suc, ◌+◌, ◌%◌, ◌^◌, List, get_or, Some, None, Option, sym, ap, subst, inl, inr, arith}
 use Rattle.codes.specs.Meaning.{Meaning}
 use Rattle.job_rules.specs.declared.records.Standing.{Standing}
 use Rattle.job_rules.specs.declared.records.Standing.TheVariants.{Open, Sound, Stuck}
@@ -12,7 +12,7 @@ use Rattle.job_rules.specs.Records.{fresh, crossing}
 use Rattle.job_rules.specs.Questions.{Request, pass, run, redeliver, lines}
 use Rattle.job_rules.specs.Lines.{line, code, InOrder}
 use Rattle.job_rules.specs.Passes.{State, Progress, Turn, turn, code_count, progress, no_effort, Pass}
-use Rattle.job_rules.specs.Calls.{Work, Goes, Runs, Redelivery, called, Accepts, Does'}
+use Rattle.job_rules.specs.Calls.{Work, Runs, called, Accepts, Does'}
 
 -- a count and another are b and the decodings, modulo 2^64
 abbrev pub Counted : (b count other decodings : ℕ) → Type 0

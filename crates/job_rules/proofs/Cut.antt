@@ -1,10 +1,9 @@
 -- A pass over tables with room to spare, seen in the records that belong to lines.
-use Rattle.std.proofs.Common.{◌≡◌, ℕ, zero, suc, ◌<◌, ◌≤◌, cond, eqb, List, [], ◌∷◌, length, get_or, take, set, sym, refl, ap, ◌∙◌, subst, arith}
+use Rattle.std.proofs.Common.{◌≡◌, ℕ, zero, suc, ◌<◌, ◌≤◌, cond, eqb, List, [], ◌∷◌, get_or, take, set, sym, refl, ap, ◌∙◌, subst, arith}
 use Rattle.std.proofs.lemmas.List.{get_or-take}
 use Rattle.codes.specs.Meaning.{Meaning, differ}
 use Rattle.job_rules.specs.declared.records.Standing.{Standing}
 use Rattle.job_rules.specs.declared.records.Standing.TheVariants.{Open, Sound, Stuck}
-use Rattle.job_rules.specs.declared.records.Record.{Record}
 use Rattle.job_rules.specs.Records.{fresh, opened}
 use Rattle.job_rules.specs.Lines.{row, decided, where_differ, Seen, InOrder}
 use Rattle.job_rules.specs.Passes.{Progress, Turn, turn}

@@ -1,10 +1,6 @@
 -- What differ counts.
-use Rattle.std.proofs.Common.{◌≡◌, ℕ, zero, suc, ◌+◌, ◌<◌, ◌≤◌, Bool, true, false, cond, eqb, ◌⊎◌, List, [], ◌∷◌, length, get_or, sym, refl, ap, ◌∙◌, inl, inr, add-one, arith, eq-eqb, eqb-true}
-use Rattle.std.proofs.lemmas.Bool.{cases_Bool}
+use Rattle.std.proofs.Common.{◌≡◌, ℕ, suc, ◌+◌, ◌<◌, ◌≤◌, Bool, true, false, cond, eqb, List, [], ◌∷◌, length, get_or, sym, refl, ◌∙◌, arith, eq-eqb, eqb-true}
 use Rattle.codes.specs.Meaning.{differ, Below}
-use Rattle.codes.specs.Meaning.{Meaning, Word, InReach, Lawful}
-use Rattle.codes.specs.Answers.{Mends, Sticks}
-use Rattle.std.proofs.lemmas.List.{ext_get_or}
 
 pub differ_same : (xs : List ℕ) → differ xs xs ≡ 0
 differ_same [] = refl

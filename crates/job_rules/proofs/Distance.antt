@@ -1,14 +1,12 @@
 -- Two frames whose rows and columns are codewords.
-use Rattle.std.proofs.Common.{◌≡◌, ℕ, zero, suc, ◌+◌, ◌-◌, ◌*◌, ◌<◌, ◌≤◌, Bool, true, false, cond, eqb, ◌⊎◌, List, [], ◌∷◌, ◌++◌, map, length, get_or, take, drop, sym, refl, ap, ◌∙◌, subst, inl, inr, add_assoc, mul-le-mul_right, suc-mul, mul_comm, mul-le-mul_left, one-mul, mul-zero, zero-add, zero-mul, mul-add, arith, length-drop, take-append-drop, length-take, eqb-true}
+use Rattle.std.proofs.Common.{◌≡◌, ℕ, zero, suc, ◌+◌, ◌*◌, ◌<◌, ◌≤◌, Bool, true, false, cond, eqb, ◌⊎◌, List, [], ◌∷◌, map, length, get_or, take, drop, sym, refl, ap, ◌∙◌, subst, inl, inr, mul-le-mul_right, suc-mul, mul-le-mul_left, one-mul, mul-zero, zero-add, zero-mul, mul-add, arith, length-drop}
 use borrow.Author.Tests.{eqb-false}
 use Rattle.std.specs.List.{range_with_len}
 use Rattle.std.proofs.lemmas.List.{drop-drop, get_or-drop}
 use Rattle.std.proofs.lemmas.Bool.{cases_lt}
 use Rattle.codes.specs.Meaning.{differ}
 use Rattle.job_rules.specs.Lines.{row, column}
-use Rattle.job_rules.proofs.Differ.{differ_none}
-use Rattle.codes.proofs.Places.{columns_same}
-use Rattle.codes.proofs.Views.{row_at, row_long, columns_show}
+use Rattle.codes.proofs.Views.{row_at, columns_show}
 
 -- differ, in two parts
 pub differ_split : (n : ℕ) (xs ys : List ℕ) → length xs ≡ length ys → differ xs ys ≡ differ (take n xs) (take n ys) + differ (drop n xs) (drop n ys)

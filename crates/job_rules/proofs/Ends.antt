@@ -1,10 +1,10 @@
 -- How runs end.
-use Rattle.std.proofs.Common.{◌≡◌, ℕ, zero, suc, ◌+◌, ◌<◌, ◌≤◌, Bool, true, false, cond, eqb, ◌⊎◌, length, get_or, Some, None, Option, sym, refl, ap, ◌∙◌, subst, inl, inr, arith, eq-eqb, ne_eqb, eqb-true}
+use Rattle.std.proofs.Common.{◌≡◌, ℕ, zero, suc, ◌<◌, ◌≤◌, Bool, true, false, cond, eqb, ◌⊎◌, get_or, Some, None, Option, sym, refl, ap, ◌∙◌, subst, inl, inr, arith, eqb-true}
 use borrow.Author.Tests.{eqb-false}
-use Rattle.std.proofs.lemmas.Bool.{cases_eq, cases_lt}
+use Rattle.std.proofs.lemmas.Bool.{cases_lt}
 use Rattle.codes.specs.Meaning.{Meaning}
 use Rattle.job_rules.specs.declared.records.Standing.{Standing}
-use Rattle.job_rules.specs.declared.records.Standing.TheVariants.{Open, Sound, Stuck}
+use Rattle.job_rules.specs.declared.records.Standing.TheVariants.{Open, Stuck}
 use Rattle.job_rules.specs.declared.records.Kind.{Kind}
 use Rattle.job_rules.specs.declared.records.Kind.TheVariants.{Row, Column}
 use Rattle.job_rules.specs.declared.answers.Ending.{Ending}
@@ -16,11 +16,11 @@ use Rattle.job_rules.specs.declared.answers.Answer.TheVariants.{Ran}
 use Rattle.job_rules.specs.Records.{fresh, how_many, crossing}
 use Rattle.job_rules.specs.Questions.{run, refusal, lines}
 use Rattle.job_rules.specs.Passes.{State, records}
-use Rattle.job_rules.specs.Calls.{standing, ending, Work, Goes, Runs, run_answer, called, Does'}
+use Rattle.job_rules.specs.Calls.{standing, ending, Work, Runs, run_answer, called, Does'}
 use Rattle.job_rules.specs.Promise.{IsWhole, Exactly}
 use Rattle.job_rules.specs.Laws.{Shaped, SomeLine, Endings, RunEndings}
 use Rattle.job_rules.proofs.Standings.{one_of, counted_one}
-use Rattle.job_rules.proofs.Whole.{table_long, whole_from, whole_none}
+use Rattle.job_rules.proofs.Whole.{whole_from, whole_none}
 use Rattle.job_rules.proofs.Lengths.{runs_keep}
 
 -- a line with a standing is counted, and what is counted is a line

@@ -1,5 +1,5 @@
 -- What a job does at a list of calls leaves no choice.
-use Rattle.std.proofs.Common.{◌≡◌, ℕ, zero, suc, ◌+◌, ◌*◌, ◌<◌, ◌≤◌, ◌⊎◌, List, [], ◌∷◌, map, length, get_or, Some, None, Option, sym, refl, ap, ◌∙◌, subst, inl, inr, arith}
+use Rattle.std.proofs.Common.{◌≡◌, ℕ, zero, suc, ◌+◌, ◌≤◌, List, [], ◌∷◌, map, length, get_or, Some, None, Option, sym, refl, ap, ◌∙◌, subst, inl, inr, arith}
 use Rattle.codes.specs.Meaning.{Meaning, Lawful, differ}
 use Rattle.job_rules.specs.declared.records.Standing.{Standing}
 use Rattle.job_rules.specs.declared.records.Standing.TheVariants.{Open, Sound, Stuck}
@@ -13,10 +13,9 @@ use Rattle.job_rules.specs.declared.answers.Answer.{Answer}
 use Rattle.job_rules.specs.declared.answers.Answer.TheVariants.{Passed, Ran}
 use Rattle.job_rules.specs.Records.{fresh, crossing}
 use Rattle.job_rules.specs.Questions.{Request, pass, run, redeliver, refusal, lines}
-use Rattle.job_rules.specs.Lines.{row, line, code, Seen, InOrder}
+use Rattle.job_rules.specs.Lines.{line, code, Seen, InOrder}
 use Rattle.job_rules.specs.Passes.{State, start, Progress, Turn, turn, seen, code_count, progress, no_effort, passed, Pass}
-use Rattle.job_rules.specs.Calls.{standing, Work, added, Goes, Runs, Redelivery, called, pass_answer, run_answer, Accepts, Does', Step, Performs, final}
-use Rattle.job_rules.specs.Promise.{Promise}
+use Rattle.job_rules.specs.Calls.{standing, Work, added, Runs, Redelivery, called, pass_answer, run_answer, Accepts, Does', Step, Performs, final}
 use Rattle.job_rules.specs.Laws.{Pinned}
 use Rattle.codes.proofs.Views.{Shows}
 use Rattle.job_rules.proofs.Either.{bytes, shows, lawful}

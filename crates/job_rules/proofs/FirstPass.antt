@@ -1,31 +1,28 @@
 -- The first row pass decodes every row.
-use Rattle.std.proofs.Common.{◌≡◌, ℕ, zero, suc, ◌+◌, ◌*◌, ◌<◌, ◌≤◌, Bool, true, false, cond, eqb, ◌⊎◌, List, [], ◌∷◌, length, get_or, set, replicate, Some, None, Option, sym, refl, ap, ◌∙◌, subst, inl, inr, arith}
+use Rattle.std.proofs.Common.{◌≡◌, ℕ, zero, suc, ◌*◌, ◌<◌, ◌≤◌, Bool, true, false, cond, eqb, ◌⊎◌, List, [], ◌∷◌, length, get_or, set, Some, None, Option, sym, refl, ap, ◌∙◌, subst, inl, inr, arith}
 use Rattle.std.proofs.lemmas.List.{get_or-set_same, get_or-set_other, set_past}
 use Rattle.std.proofs.lemmas.Bool.{cases_eq, cases_lt}
 use Rattle.codes.specs.Meaning.{Meaning, Lawful, differ}
 use Rattle.codes.specs.Answers.{Decodes}
-use Rattle.codes.specs.declared.Decoded.{Decoded}
 use Rattle.codes.specs.declared.Decoded.TheVariants.{Mended}
 use Rattle.job_rules.specs.declared.records.Standing.{Standing}
 use Rattle.job_rules.specs.declared.records.Standing.TheVariants.{Open, Sound, Stuck}
 use Rattle.job_rules.specs.declared.records.Record.{Record}
-use Rattle.job_rules.specs.declared.records.Kind.{Kind}
 use Rattle.job_rules.specs.declared.records.Kind.TheVariants.{Row, Column}
 use Rattle.job_rules.specs.declared.answers.Effort.{Effort}
 use Rattle.job_rules.specs.declared.answers.Refusal.{Refusal}
 use Rattle.job_rules.specs.declared.answers.Answer.{Answer}
-use Rattle.job_rules.specs.declared.answers.Answer.TheVariants.{Passed, Ran, Redelivered, Refused}
-use Rattle.job_rules.specs.Records.{fresh, opened, crossing}
+use Rattle.job_rules.specs.Records.{fresh, opened}
 use Rattle.job_rules.specs.Questions.{Request, pass, run, redeliver, refusal}
-use Rattle.job_rules.specs.Lines.{row, column, line, decided, where_differ, InOrder}
+use Rattle.job_rules.specs.Lines.{row, column, decided, where_differ, InOrder}
 use Rattle.job_rules.specs.Passes.{State, start, Progress, Turn, turn, progress, no_effort, Pass}
-use Rattle.job_rules.specs.Calls.{standing, Work, Goes, Runs, Redelivery, called, Accepts, Does', Step, Performs, final}
+use Rattle.job_rules.specs.Calls.{Work, Runs, Redelivery, called, Accepts, Does', Step, Performs, final}
 use Rattle.job_rules.specs.Laws.{Shaped}
-use Rattle.job_rules.specs.FirstRows.{WasRefused, NoRows, NoRowsYet, BeforeRows, RowsInReach, Restored, BeginsWith, FirstRowPass, FirstRowPassRestores}
+use Rattle.job_rules.specs.FirstRows.{WasRefused, NoRows, NoRowsYet, BeforeRows, RowsInReach, Restored, BeginsWith, FirstRowPassRestores}
 use Rattle.codes.proofs.Views.{rows_show, row_long}
 use Rattle.job_rules.proofs.Accepted.{accepted_fits, accepted_limit}
 use Rattle.job_rules.proofs.Unique.{decodes_one}
-use Rattle.job_rules.proofs.Lengths.{pass_keeps, turns_lengths, turns_long, redelivery_keeps}
+use Rattle.job_rules.proofs.Lengths.{pass_keeps, turns_lengths, redelivery_keeps}
 use Rattle.job_rules.proofs.Ends.{line_counted}
 use Rattle.job_rules.proofs.Promised.{open_at}
 use Rattle.job_rules.proofs.Bounded.{start_shaped}

@@ -1,5 +1,5 @@
 -- Passes, runs and redeliveries of a job, as the thorough reader makes them.
-use Rattle.std.proofs.Common.{◌≡◌, ℕ, zero, suc, ◌+◌, ◌*◌, ◌<◌, ◌≤◌, Bool, true, false, cond, eqb, ◌⊎◌, List, length, get_or, sym, refl, ap, ◌∙◌, subst, inl, inr, arith}
+use Rattle.std.proofs.Common.{◌≡◌, ℕ, zero, suc, ◌+◌, ◌<◌, ◌≤◌, false, cond, eqb, List, length, get_or, sym, refl, ap, ◌∙◌, subst, inl, inr, arith}
 use Rattle.codes.specs.Meaning.{Meaning, differ}
 use Rattle.job_rules.specs.declared.records.Standing.{Standing}
 use Rattle.job_rules.specs.declared.records.Standing.TheVariants.{Open, Sound, Stuck}
@@ -8,16 +8,16 @@ use Rattle.job_rules.specs.declared.records.Kind.TheVariants.{Row, Column}
 use Rattle.job_rules.specs.declared.answers.Effort.{Effort}
 use Rattle.job_rules.specs.Records.{fresh, opened, is_same_standing, how_many, crossing}
 use Rattle.job_rules.specs.Questions.{lines}
-use Rattle.job_rules.specs.Lines.{row, column, line, code, InOrder}
+use Rattle.job_rules.specs.Lines.{row, line, code, InOrder}
 use Rattle.job_rules.specs.Passes.{State, Progress, Turn, turn, seen, records, progress, no_effort, Pass}
-use Rattle.job_rules.specs.Calls.{standing, Work, no_work, Goes, Runs, Redelivery}
-use Rattle.job_rules.specs.Reader.{Log, unchanged, rewritten, Reader, Headway, Reading, headway, Through, Follows, AllPasses, Receives}
+use Rattle.job_rules.specs.Calls.{standing, Work, no_work, Runs, Redelivery}
+use Rattle.job_rules.specs.Reader.{Log, rewritten, Reader, Headway, Reading, headway, Through, AllPasses, Receives}
 use Rattle.job_rules.proofs.Standings.{none_of}
 use Rattle.job_rules.proofs.Logs.{rewritten_own, rewritten_other, rewritten_across}
 use Rattle.codes.proofs.Views.{row_long}
 use Rattle.job_rules.proofs.Either.{bytes, crosses}
 use Rattle.job_rules.proofs.Settled.{Settled, delivery_settles}
-use Rattle.job_rules.proofs.Agree.{done, Logged, logs, opened_done, head_of, turns_read}
+use Rattle.job_rules.proofs.Agree.{Logged, logs, opened_done, head_of, turns_read}
 
 -- every line that is not open is what its last decoding left, and the log knows it
 abbrev pub SettledAt : (p q : Meaning) → Kind → State → Type 0

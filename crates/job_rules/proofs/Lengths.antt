@@ -1,5 +1,5 @@
 -- A frame keeps its length, and tables keep theirs.
-use Rattle.std.proofs.Common.{◌≡◌, ℕ, zero, suc, ◌⊎◌, List, length, get_or, set, sym, refl, ap, ◌∙◌, inl, inr}
+use Rattle.std.proofs.Common.{◌≡◌, ℕ, zero, suc, List, length, get_or, ap, ◌∙◌, inl, inr}
 use Rattle.std.proofs.lemmas.List.{length-set}
 use Rattle.codes.specs.Meaning.{Meaning}
 use Rattle.job_rules.specs.declared.records.Standing.{Standing}
@@ -9,10 +9,9 @@ use Rattle.job_rules.specs.declared.records.Kind.{Kind}
 use Rattle.job_rules.specs.declared.records.Kind.TheVariants.{Row, Column}
 use Rattle.job_rules.specs.declared.answers.Effort.{Effort}
 use Rattle.job_rules.specs.Records.{fresh, opened, crossing}
-use Rattle.job_rules.specs.Questions.{lines}
-use Rattle.job_rules.specs.Lines.{line, code, decided, InOrder}
+use Rattle.job_rules.specs.Lines.{line, decided, InOrder}
 use Rattle.job_rules.specs.Passes.{State, Progress, Turn, turn, progress, no_effort, Pass}
-use Rattle.job_rules.specs.Calls.{Work, Goes, Runs, Redelivery}
+use Rattle.job_rules.specs.Calls.{Work, Runs, Redelivery}
 use Rattle.job_rules.proofs.Places.{length_wd}
 
 -- the lengths of a frame and of its two tables

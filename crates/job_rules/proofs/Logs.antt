@@ -1,10 +1,10 @@
 -- What the log says of lines after one of them was rewritten.
-use Rattle.std.proofs.Common.{◌≡◌, ℕ, zero, suc, ◌+◌, ◌<◌, Bool, true, false, cond, ◌&&◌, eqb, ◌≢◌, List, [], ◌∷◌, length, get_or, sym, refl, ap, ◌∙◌, arith, eq-eqb, ne_eqb}
+use Rattle.std.proofs.Common.{◌≡◌, ℕ, zero, suc, ◌+◌, ◌<◌, Bool, true, false, cond, eqb, List, [], ◌∷◌, length, get_or, refl, ap, ◌∙◌, arith, eq-eqb, ne_eqb}
 use Rattle.codes.specs.Meaning.{differ}
 use Rattle.job_rules.specs.declared.records.Kind.{Kind}
 use Rattle.job_rules.specs.declared.records.Kind.TheVariants.{Row, Column}
 use Rattle.job_rules.specs.Records.{crossing}
-use Rattle.job_rules.specs.Reader.{Log, given, decoded, same_kind, unchanged, given_at, rewritten}
+use Rattle.job_rules.specs.Reader.{Log, decoded, unchanged, given_at, rewritten}
 
 -- one event more
 own_decoded : (kind : Kind) (i : ℕ) (log : Log) → unchanged kind i (decoded kind i ∷ log) ≡ true

@@ -1,5 +1,5 @@
 -- The numbers of the lines that have a standing.
-use Rattle.std.proofs.Common.{◌≡◌, ℕ, zero, suc, ◌+◌, ◌<◌, ◌≤◌, Bool, true, false, cond, List, [], ◌∷◌, length, get_or, Some, None, Option, sym, refl, ap, ◌∙◌, subst, arith}
+use Rattle.std.proofs.Common.{◌≡◌, ℕ, zero, suc, ◌+◌, ◌<◌, Bool, true, false, cond, List, [], ◌∷◌, length, get_or, Some, None, Option, sym, refl, ap, ◌∙◌, subst, arith}
 use Rattle.std.proofs.lemmas.List.Sums.{sum_by-cons}
 use Rattle.codes.specs.Meaning.{Meaning}
 use Rattle.job_rules.specs.declared.records.Standing.{Standing}
@@ -11,7 +11,7 @@ use Rattle.job_rules.specs.declared.answers.Refusal.{Refusal}
 use Rattle.job_rules.specs.declared.answers.Answer.{Answer}
 use Rattle.job_rules.specs.declared.answers.Answer.TheVariants.{Passed}
 use Rattle.job_rules.specs.Records.{fresh, is_same_standing, how_many}
-use Rattle.job_rules.specs.Questions.{pass, refusal, lines}
+use Rattle.job_rules.specs.Questions.{pass, refusal}
 use Rattle.job_rules.specs.Passes.{State, records}
 use Rattle.job_rules.specs.Calls.{called, pass_answer, Does'}
 use Rattle.job_rules.specs.Laws.{Shaped, Has, Numbered, StuckCounts}

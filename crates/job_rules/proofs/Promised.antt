@@ -1,11 +1,10 @@
 -- The promise over every list of calls.
-use Rattle.std.proofs.Common.{◌≡◌, ℕ, zero, suc, ◌+◌, ◌*◌, ◌%◌, ◌^◌, ◌<◌, ◌≤◌, false, not, ◌⊎◌, List, [], ◌∷◌, map, length, get_or, replicate, Some, None, Option, sym, refl, ap, ◌∙◌, subst, inl, inr, add-zero, arith}
+use Rattle.std.proofs.Common.{◌≡◌, ℕ, zero, suc, ◌+◌, ◌*◌, ◌%◌, ◌^◌, ◌<◌, ◌≤◌, not, ◌⊎◌, List, [], ◌∷◌, length, get_or, replicate, Some, None, Option, sym, refl, ap, ◌∙◌, subst, inl, inr, add-zero, arith}
 use Rattle.std.proofs.lemmas.List.{length-replicate}
 use Rattle.std.proofs.lemmas.Bool.{cases_eq}
 use Rattle.codes.specs.Meaning.{Meaning, Lawful, Word, SameCode, differ}
 use Rattle.job_rules.specs.declared.records.Standing.{Standing}
-use Rattle.job_rules.specs.declared.records.Standing.TheVariants.{Open, Sound, Stuck}
-use Rattle.job_rules.specs.declared.records.Kind.{Kind}
+use Rattle.job_rules.specs.declared.records.Standing.TheVariants.{Open}
 use Rattle.job_rules.specs.declared.records.Kind.TheVariants.{Row, Column}
 use Rattle.job_rules.specs.declared.answers.Refusal.{Refusal}
 use Rattle.job_rules.specs.declared.answers.Answer.{Answer}
@@ -14,13 +13,13 @@ use Rattle.job_rules.specs.Questions.{Request, pass, run, redeliver, refusal}
 use Rattle.job_rules.specs.Lines.{row, column}
 use Rattle.job_rules.specs.Passes.{State, start}
 use Rattle.job_rules.specs.Calls.{called, Accepts, Does', Step, Performs, final}
-use Rattle.job_rules.specs.Reader.{Log, Reader, opens, changed, Takes, Reads', counted, ReaderStep, History}
-use Rattle.job_rules.specs.Promise.{Gives, plainly, Agrees, Beside, IsWhole, WholeReading, left, EqualWhenNear, Promise}
+use Rattle.job_rules.specs.Reader.{Log, opens, changed, Takes, Reads', counted, ReaderStep, History}
+use Rattle.job_rules.specs.Promise.{Gives, plainly, Beside, IsWhole, WholeReading, left, EqualWhenNear, Promise}
 use Rattle.job_rules.proofs.Differ.{differ_same}
 use Rattle.job_rules.proofs.Either.{bytes}
 use Rattle.job_rules.proofs.Accepted.{accepted_fits, accepted_row}
-use Rattle.job_rules.proofs.Settled.{Settles, Settled}
-use Rattle.job_rules.proofs.Follow.{SettledAt, Fine, reader_of, pass_reads, run_reads, redelivery_reads}
+use Rattle.job_rules.proofs.Settled.{Settles}
+use Rattle.job_rules.proofs.Follow.{Fine, reader_of, pass_reads, run_reads, redelivery_reads}
 use Rattle.job_rules.proofs.Unique.{history_one}
 use Rattle.job_rules.proofs.Counting.{CountedAt, does_count}
 use Rattle.job_rules.proofs.Sums.{summed}

@@ -1,5 +1,5 @@
 -- A line that is not open is what a decoding of it would leave.
-use Rattle.std.proofs.Common.{◌≡◌, ℕ, zero, suc, ◌+◌, ◌-◌, ◌*◌, ◌<◌, ◌≤◌, Bool, true, false, cond, eqb, ◌⊎◌, List, [], ◌∷◌, length, get_or, take, drop, set, sym, refl, ap, ◌∙◌, subst, inl, inr, arith, eqb-true}
+use Rattle.std.proofs.Common.{◌≡◌, ℕ, ◌+◌, ◌*◌, ◌<◌, ◌≤◌, Bool, true, false, cond, eqb, ◌⊎◌, List, length, get_or, set, sym, refl, ap, ◌∙◌, subst, inl, inr, arith, eqb-true}
 use Rattle.std.proofs.lemmas.List.{get_or-set_same, get_or-set_other, length-set, ext_get_or}
 use Rattle.std.proofs.lemmas.Bool.{cases_eq}
 use Rattle.codes.specs.Meaning.{Meaning, Word, InReach, differ}
@@ -10,8 +10,8 @@ use Rattle.job_rules.specs.declared.records.Standing.{Standing}
 use Rattle.job_rules.specs.declared.records.Standing.TheVariants.{Open, Sound, Stuck as Fast}
 use Rattle.job_rules.specs.declared.records.Record.{Record}
 use Rattle.job_rules.specs.Records.{fresh, opened}
-use Rattle.job_rules.specs.Lines.{decided, row, column, where_differ, Seen, Becomes, Decoding, InOrder}
-use Rattle.job_rules.specs.Passes.{Progress, Turn, turn}
+use Rattle.job_rules.specs.Lines.{decided, row, column, where_differ, Seen, Becomes, Decoding}
+use Rattle.job_rules.specs.Passes.{Progress, Turn}
 use Rattle.job_rules.specs.Calls.{Delivery}
 use Rattle.job_rules.proofs.Places.{wd_at, length_wd}
 use Rattle.job_rules.proofs.Differ.{differ_none}

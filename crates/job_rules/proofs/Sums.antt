@@ -1,5 +1,5 @@
 -- The report is the sum of the answers, after each call.
-use Rattle.std.proofs.Common.{◌≡◌, ℕ, zero, suc, ◌+◌, ◌<◌, ◌≤◌, ◌⊎◌, List, [], ◌∷◌, map, take, Some, None, sum_by, Option, sym, refl, ap, ◌∙◌, subst, inl, inr, arith}
+use Rattle.std.proofs.Common.{◌≡◌, ℕ, zero, suc, ◌+◌, List, [], ◌∷◌, map, take, Some, None, sum_by, Option, sym, ap, ◌∙◌, subst, inl, inr, arith}
 use Rattle.std.proofs.lemmas.List.Sums.{sum_by-cons}
 use Rattle.std.proofs.lemmas.List.{take-map}
 use Rattle.codes.specs.Meaning.{Meaning}
@@ -10,8 +10,8 @@ use Rattle.job_rules.specs.declared.answers.Refusal.{Refusal}
 use Rattle.job_rules.specs.declared.answers.Answer.{Answer}
 use Rattle.job_rules.specs.Records.{crossing}
 use Rattle.job_rules.specs.Questions.{Request, pass, run, redeliver, refusal}
-use Rattle.job_rules.specs.Passes.{State, start, Pass}
-use Rattle.job_rules.specs.Calls.{Work, Goes, Runs, Redelivery, called, Accepts, Does', Step, Performs, final, passes_of, decodings_of, redelivered_of, Summed}
+use Rattle.job_rules.specs.Passes.{State, start}
+use Rattle.job_rules.specs.Calls.{Work, Runs, called, Accepts, Does', Step, Performs, final, passes_of, decodings_of, redelivered_of, Summed}
 
 -- what a run adds to the counts
 pub record Adds (w : Work) (n n' : Counts) : Type 0 where

@@ -1,5 +1,5 @@
 -- Tallies grow by decodings alone, and places changed are their growth.
-use Rattle.std.proofs.Common.{◌≡◌, ℕ, zero, suc, ◌+◌, ◌<◌, ◌≤◌, Bool, true, false, cond, eqb, ◌⊎◌, List, map, length, get_or, set, sum, sym, refl, ap, ◌∙◌, subst, inl, inr, arith}
+use Rattle.std.proofs.Common.{◌≡◌, ℕ, zero, suc, ◌+◌, Bool, true, false, cond, eqb, List, map, get_or, set, sum, sym, refl, ap, ◌∙◌, inl, inr, arith}
 use lib.ListN.{get_or-map}
 use Rattle.std.proofs.lemmas.List.Sums.{sum-map}
 use Rattle.std.proofs.lemmas.List.{map-set, set-get_or}
@@ -12,7 +12,7 @@ use Rattle.job_rules.specs.Records.{fresh, opened, tallies, crossing}
 use Rattle.job_rules.specs.Questions.{lines}
 use Rattle.job_rules.specs.Lines.{row, line, code, Seen}
 use Rattle.job_rules.specs.Passes.{State, progress, no_effort, Pass}
-use Rattle.job_rules.specs.Calls.{Delivery, Work, Goes, Runs, Redelivery, report}
+use Rattle.job_rules.specs.Calls.{Delivery, Work, Runs, report}
 use Rattle.job_rules.specs.Laws.{Shaped, TalliesGrow, ChangesAreTallies}
 use Rattle.job_rules.proofs.Lengths.{pass_keeps}
 use Rattle.job_rules.proofs.Whole.{table_long}

@@ -1,9 +1,8 @@
 -- Tallies and changed places: what a decoding adds to them.
-use Rattle.std.proofs.Common.{◌≡◌, ℕ, zero, suc, ◌+◌, ◌*◌, ◌<◌, ◌≤◌, ◌⊎◌, List, map, length, get_or, set, sum_by, sum, sym, refl, ap, ◌∙◌, subst, inl, inr, suc-mul, mul-zero, mul-suc, arith}
+use Rattle.std.proofs.Common.{◌≡◌, ℕ, zero, suc, ◌+◌, ◌*◌, ◌<◌, ◌≤◌, List, length, get_or, sum, sym, refl, ap, ◌∙◌, subst, suc-mul, arith}
 use lib.ListN.{get_or-map}
 use Rattle.std.proofs.lemmas.List.Sums.{sum_by-set, sum-map}
 use Rattle.std.proofs.lemmas.List.{get_or-set_same, get_or-set_other}
-use Rattle.std.proofs.lemmas.Bool.{cases_eq}
 use Rattle.codes.specs.Meaning.{Meaning, differ}
 use Rattle.codes.specs.Answers.{Decodes}
 use Rattle.codes.specs.declared.Decoded.{Decoded}

@@ -5,8 +5,8 @@ use Rattle.job_rules.specs.declared.records.Kind.{Kind}
 use Rattle.job_rules.specs.Records.{crossing}
 use Rattle.job_rules.specs.Questions.{lines}
 use Rattle.job_rules.specs.Lines.{line, code, InOrder}
-use Rattle.job_rules.specs.Reader.{Reader, Headway, Reading, headway, Through, Follows, AllPasses}
-use Rattle.job_rules.specs.Laws.{ReadsAll, lines_in}
+use Rattle.job_rules.specs.Reader.{Reader, Headway, Reading, headway, Through, AllPasses}
+use Rattle.job_rules.specs.Laws.{ReadsAll}
 
 readings : (m : Meaning) (kind : Kind) (view : List ℕ → ℕ → List ℕ) (n k : ℕ) (s t : Headway) → InOrder (Reading m kind view n) k s t → t.decodings ≡ s.decodings + k
 unfolding InOrder

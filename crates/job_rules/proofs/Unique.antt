@@ -1,5 +1,5 @@
 -- There is one history of the thorough reader only.
-use Rattle.std.proofs.Common.{◌≡◌, ℕ, zero, suc, ◌+◌, ◌*◌, ◌<◌, ◌≤◌, List, [], ◌∷◌, length, get_or, set, Some, None, Option, sym, refl, ap, ◌∙◌, subst, arith}
+use Rattle.std.proofs.Common.{◌≡◌, ℕ, zero, suc, ◌+◌, ◌*◌, List, [], ◌∷◌, length, get_or, set, Some, None, Option, sym, refl, ap, ◌∙◌, subst, arith}
 use Rattle.codes.specs.Meaning.{Meaning, Lawful, differ}
 use Rattle.codes.specs.Answers.{Decodes}
 use Rattle.codes.specs.declared.Decoded.{Decoded}
@@ -12,7 +12,7 @@ use Rattle.job_rules.specs.Records.{fresh, opened, crossing}
 use Rattle.job_rules.specs.Questions.{Request, pass, run, redeliver, refusal, lines}
 use Rattle.job_rules.specs.Lines.{decided, row, line, code, where_differ, Seen, Becomes, Decoding, InOrder}
 use Rattle.job_rules.specs.Calls.{Delivery}
-use Rattle.job_rules.specs.Reader.{Log, decoded, rewritten, Reader, Headway, Reading, sees, headway, Through, Follows, AllPasses, Receives, Takes, Reads', counted, ReaderStep, History, Reply, changed}
+use Rattle.job_rules.specs.Reader.{Log, decoded, rewritten, Reader, Headway, Reading, sees, headway, Through, AllPasses, Receives, Takes, Reads', counted, ReaderStep, History, Reply, changed}
 use Rattle.job_rules.proofs.Differ.{differ_via}
 use Rattle.codes.proofs.Views.{Shows, becomes_one}
 use Rattle.job_rules.proofs.Either.{bytes, shows, lawful}

@@ -1,18 +1,17 @@
 -- Which lines have which standing: whole, quiet and limit.
-use Rattle.std.proofs.Common.{◌≡◌, ℕ, zero, suc, ◌+◌, ◌<◌, ◌≤◌, Bool, true, false, cond, ◌⊎◌, List, length, get_or, sym, refl, ap, ◌∙◌, subst, inl, inr, arith}
+use Rattle.std.proofs.Common.{◌≡◌, ℕ, ◌<◌, Bool, true, false, length, refl, ap, ◌∙◌, arith}
 use Rattle.codes.specs.Meaning.{Meaning}
 use Rattle.job_rules.specs.declared.records.Standing.{Standing}
 use Rattle.job_rules.specs.declared.records.Standing.TheVariants.{Open, Sound, Stuck}
-use Rattle.job_rules.specs.declared.records.Record.{Record}
 use Rattle.job_rules.specs.declared.records.Kind.{Kind}
 use Rattle.job_rules.specs.declared.records.Kind.TheVariants.{Row, Column}
-use Rattle.job_rules.specs.Records.{fresh, is_same_standing, how_many}
+use Rattle.job_rules.specs.Records.{is_same_standing, how_many}
 use Rattle.job_rules.specs.Questions.{lines}
 use Rattle.job_rules.specs.Passes.{State, records}
 use Rattle.job_rules.specs.Calls.{standing}
 use Rattle.job_rules.specs.Promise.{IsWhole, Exactly}
 use Rattle.job_rules.specs.Laws.{Shaped}
-use Rattle.job_rules.proofs.Standings.{same_is, same_self, none_of, no_more, one_of, counted_one}
+use Rattle.job_rules.proofs.Standings.{none_of, no_more}
 
 pub table_long : (p q : Meaning) (s : State) → Shaped p q s → (kind : Kind) → length (records kind s) ≡ lines p q kind
 table_long p q s h Row = h.rows

@@ -18,7 +18,7 @@ use Rattle.job_rules.specs.declared.answers.Answer.TheVariants.{Passed, Ran, Red
 use Rattle.job_rules.specs.Records.{fresh, opened, how_many, tallies, crossing}
 use Rattle.job_rules.specs.Questions.{Request, pass, run, redeliver, refusal}
 use Rattle.job_rules.specs.Lines.{row, where_differ, Seen, Becomes}
-use Rattle.job_rules.specs.Passes.{State, records, seen, no_effort, Pass}
+use Rattle.job_rules.specs.Passes.{State, records, seen, Pass}
 
 -- how many lines of both kinds have this standing
 abbrev pub standing : Standing → State → ℕ

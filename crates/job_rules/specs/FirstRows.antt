@@ -10,7 +10,7 @@ use Rattle.job_rules.specs.Records.{fresh}
 use Rattle.job_rules.specs.Questions.{Request, pass, run, redeliver, refusal}
 use Rattle.job_rules.specs.Lines.{row}
 use Rattle.job_rules.specs.Passes.{State, start, Pass}
-use Rattle.job_rules.specs.Calls.{Work, Runs, added, called, Does, Step, Performs, final}
+use Rattle.job_rules.specs.Calls.{Work, Runs, called, Does, Step, Performs, final}
 
 -- a call that was refused
 abbrev pub WasRefused : Answer → Type 0

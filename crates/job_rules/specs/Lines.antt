@@ -1,6 +1,5 @@
 -- The lines of a frame, and what decoding one of them does.
-use Rattle.std.specs.Prelude.{◌≡◌, ℕ, zero, suc, ◌+◌, ◌*◌, ◌<◌, cond, List, [], ◌∷◌, map, length, ◌==◌, slice_index_or, slice_set}
-use Rattle.std.specs.List.{range_with_len}
+use Rattle.std.specs.Prelude.{◌≡◌, ℕ, zero, suc, ◌+◌, cond, List, [], ◌∷◌, ◌==◌, slice_index_or, slice_set}
 pub use Rattle.codes.specs.Frames.{row, column, Becomes}
 use Rattle.codes.specs.Meaning.{Meaning}
 use Rattle.codes.specs.Answers.{Decodes}

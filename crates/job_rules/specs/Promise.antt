@@ -1,6 +1,6 @@
 -- What a job promises over every list of calls.
-use Rattle.std.specs.Prelude.{◌≡◌, ℕ, ◌+◌, ◌*◌, ◌%◌, ◌^◌, ◌<◌, Bool, true, List, [], ◌∷◌, map, take, slice_index_or}
-use Rattle.codes.specs.Meaning.{Meaning, Lawful, SameCode, differ}
+use Rattle.std.specs.Prelude.{◌≡◌, ℕ, ◌+◌, ◌*◌, ◌%◌, ◌^◌, ◌<◌, List, [], ◌∷◌, map, take, slice_index_or}
+use Rattle.codes.specs.Meaning.{Meaning, SameCode, differ}
 use Rattle.job_rules.specs.declared.records.Standing.TheVariants.{Sound}
 use Rattle.job_rules.specs.declared.records.Kind.{Kind}
 use Rattle.job_rules.specs.declared.answers.Answer.{Answer}

@@ -1,5 +1,5 @@
 -- A redelivery that is accepted.
-use Rattle.std.proofs.Common.{◌≡◌, ℕ, ◌+◌, ◌*◌, ◌<◌, ◌≤◌, Bool, true, eqb, ltb, List, length, Some, None, Option, sym, refl, ap, ◌∙◌, subst, arith, lt-ltb, eq-eqb}
+use Rattle.std.proofs.Common.{◌≡◌, ℕ, ◌+◌, ◌*◌, ◌<◌, Bool, true, eqb, List, length, None, Option, sym, refl, ◌∙◌, subst, arith, lt-ltb, eq-eqb}
 use Rattle.codes.specs.Meaning.{Meaning, differ}
 use Rattle.job_rules.specs.declared.records.Kind.TheVariants.{Row}
 use Rattle.job_rules.specs.declared.records.Lines.{Lines}
@@ -9,7 +9,7 @@ use Rattle.job_rules.specs.declared.answers.Answer.TheVariants.{Redelivered}
 use Rattle.job_rules.specs.Questions.{redeliver, refusal, most_calls}
 use Rattle.job_rules.specs.Lines.{row}
 use Rattle.job_rules.specs.Passes.{State}
-use Rattle.job_rules.specs.Calls.{Delivery, Redelivery, delivered, called, Does, Does'}
+use Rattle.job_rules.specs.Calls.{Delivery, Redelivery, called, Does, Does'}
 use Rattle.job_rules.proofs.Cut.{delivery_cut}
 use Rattle.passes.specs.Steps.{sofar}
 use Rattle.jobs.proofs.Passing.{state_of}

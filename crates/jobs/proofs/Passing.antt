@@ -1,20 +1,18 @@
 -- One pass of a job: from the tables that it holds to the records of its lines.
-use Rattle.std.proofs.Common.{◌≡◌, ℕ, ◌+◌, ◌*◌, ◌^◌, ◌<◌, ◌≤◌, ◌⊎◌, List, length, get_or, take, sym, refl, ap, ◌∙◌, subst, inl, inr, mul-le-mul_right, mul-le-mul_left, arith}
+use Rattle.std.proofs.Common.{◌≡◌, ℕ, ◌+◌, ◌*◌, ◌<◌, ◌≤◌, ◌⊎◌, List, length, get_or, take, refl, ap, inl, inr, mul-le-mul_right, mul-le-mul_left, arith}
 use Rattle.std.proofs.lemmas.List.Sums.{get_or-le-sum_by}
 use Rattle.std.proofs.lemmas.List.{get_or_past}
 use Rattle.std.proofs.lemmas.Bool.{cases_lt}
 use Rattle.codes.specs.Meaning.{Meaning, Lawful}
 use Rattle.job_rules.specs.declared.records.Record.{Record}
-use Rattle.job_rules.specs.declared.records.Kind.{Kind}
 use Rattle.job_rules.specs.declared.records.Kind.TheVariants.{Row, Column}
 use Rattle.job_rules.specs.declared.records.Lines.{Lines}
 use Rattle.job_rules.specs.declared.records.Counts.{Counts}
 use Rattle.job_rules.specs.declared.answers.Effort.{Effort}
 use Rattle.job_rules.specs.Records.{fresh, on, tallies}
-use Rattle.job_rules.specs.Bounds.{most_lines, most_changes}
-use Rattle.job_rules.specs.Lines.{row, column, line, code}
-use Rattle.job_rules.specs.Questions.{lines}
-use Rattle.job_rules.specs.Passes.{State, Progress, Pass, passed}
+use Rattle.job_rules.specs.Bounds.{most_changes}
+use Rattle.job_rules.specs.Lines.{row, column}
+use Rattle.job_rules.specs.Passes.{State, Pass, passed}
 use Rattle.job_rules.proofs.Cut.{turns_cut}
 use Rattle.passes.specs.Steps.{sofar, Made}
 

@@ -1,6 +1,6 @@
 -- A list of calls, done one by one.
 use Rattle.std.proofs.Common.{◌≡◌, ℕ, ◌+◌, ◌<◌, ◌≤◌, List, [], ◌∷◌, ◌++◌, map, length, get_or, take, drop, set, Some, None, Option, sym, refl, ap, ◌∙◌, subst, arith}
-use Rattle.std.proofs.lemmas.List.{drop_more, drop_all, take_all, append-nil, append_assoc, map_push, map-set, map-append, set-get_or, take_more_set, get_or-map, length-map}
+use Rattle.std.proofs.lemmas.List.{drop_more, drop_all, take_all, append-nil, append_assoc, map_push, map-set, set-get_or, take_more_set, get_or-map, length-map}
 use Rattle.codes.specs.Meaning.{Meaning}
 use Rattle.job_rules.specs.declared.records.Kind.TheVariants.{Row}
 use Rattle.job_rules.specs.declared.calls.Call.{Call}

@@ -1,5 +1,5 @@
 -- The passes of a run.
-use Rattle.std.proofs.Common.{◌≡◌, ℕ, zero, suc, ◌+◌, ◌-◌, ◌*◌, ◌<◌, ◌≤◌, cond, eqb, ◌⊎◌, List, length, sym, refl, ap, ◌∙◌, subst, inl, inr, arith, eq-eqb, ne_eqb}
+use Rattle.std.proofs.Common.{◌≡◌, ℕ, zero, suc, ◌+◌, ◌-◌, ◌*◌, ◌<◌, ◌≤◌, length, sym, refl, ap, ◌∙◌, subst, inl, inr, arith, eq-eqb, ne_eqb}
 use Rattle.codes.specs.Meaning.{Meaning}
 use Rattle.job_rules.specs.declared.records.Standing.TheVariants.{Open, Stuck}
 use Rattle.job_rules.specs.declared.records.Kind.{Kind}
@@ -11,7 +11,7 @@ use Rattle.job_rules.specs.declared.answers.RunAnswer.{RunAnswer}
 use Rattle.job_rules.specs.Records.{crossing}
 use Rattle.job_rules.specs.Bounds.{most_lines, most_changes}
 use Rattle.job_rules.specs.Passes.{State, Pass}
-use Rattle.job_rules.specs.Calls.{standing, ending, Work, no_work, added, Goes, Runs, run_answer}
+use Rattle.job_rules.specs.Calls.{standing, ending, Work, no_work, added, Runs, run_answer}
 use Rattle.job_rules.proofs.Lengths.{pass_long}
 
 -- work done, and then more

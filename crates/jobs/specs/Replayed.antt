@@ -1,5 +1,5 @@
 -- What the replay of a list of calls promises.
-use Rattle.std.specs.Prelude.{◌≡◌, ℕ, List, map, Some, Option}
+use Rattle.std.specs.Prelude.{◌≡◌, ℕ, List, map, Some}
 use Rattle.codes.specs.declared.LineCode.{Ghosts}
 use Rattle.job_rules.specs.declared.calls.Entry.{Entry}
 use Rattle.job_rules.specs.declared.answers.Answer.{Answer}

@@ -1,5 +1,5 @@
 -- From what the program holds to what the rules speak of.
-use Rattle.std.specs.Prelude.{◌≡◌, ℕ, ◌≤◌, List, length, take, Ok, Err, Result}
+use Rattle.std.specs.Prelude.{◌≡◌, ℕ, ◌≤◌, List, take, Ok, Err, Result}
 use Rattle.codes.specs.Meaning.{Meaning}
 use Rattle.codes.specs.declared.LineCode.{Ghosts}
 use Rattle.job_rules.specs.declared.records.Kind.{Kind}

@@ -1,5 +1,5 @@
 -- Lines opened place by place.
-use Rattle.std.proofs.Common.{◌≡◌, ℕ, suc, ◌+◌, ◌<◌, cond, eqb, List, [], length, get_or, take, set, sym, refl, ap, ◌∙◌, add-one, eq-eqb, ne_eqb}
+use Rattle.std.proofs.Common.{◌≡◌, ℕ, ◌+◌, ◌<◌, List, [], length, get_or, take, set, sym, refl, ap, ◌∙◌, add-one, eq-eqb, ne_eqb}
 use Rattle.job_rules.specs.declared.records.Record.{Record}
 use Rattle.job_rules.specs.Records.{fresh, opened}
 use Rattle.job_rules.specs.Lines.{where_differ}

@@ -1,5 +1,5 @@
 -- A row that is given new bytes.
-use Rattle.std.proofs.Common.{◌≡◌, ℕ, ◌+◌, ◌-◌, ◌*◌, ◌<◌, ◌≤◌, Bool, true, false, cond, eqb, List, map, length, get_or, take, drop, set, sum, sym, refl, ap, ◌∙◌, subst, arith}
+use Rattle.std.proofs.Common.{◌≡◌, ℕ, ◌*◌, ◌<◌, Bool, true, false, cond, eqb, List, map, length, get_or, take, drop, set, sum, sym, refl, ap, ◌∙◌}
 use lib.ListN.{get_or-map}
 use borrow.Rule.Slice.PartMut.{put_mid}
 use Rattle.std.proofs.lemmas.List.Sums.{sum-map}
@@ -9,7 +9,7 @@ use Rattle.job_rules.specs.declared.records.Record.{Record}
 use Rattle.job_rules.specs.declared.records.Kind.TheVariants.{Row, Column}
 use Rattle.job_rules.specs.declared.records.Lines.{Lines}
 use Rattle.job_rules.specs.Records.{fresh, opened, on, tallies}
-use Rattle.job_rules.specs.Lines.{row, where_differ}
+use Rattle.job_rules.specs.Lines.{where_differ}
 use Rattle.job_rules.specs.Calls.{Delivery}
 use Rattle.codes.proofs.Rows.{row_becomes}
 use Rattle.passes.specs.Steps.{sofar, opened_if}

@@ -1,5 +1,5 @@
 -- A pass that has come to line i.
-use Rattle.std.proofs.Common.{◌≡◌, ℕ, zero, suc, ◌+◌, ◌*◌, ◌<◌, ◌≤◌, List, length, get_or, set, sym, refl, ap, ◌∙◌, subst, add-zero, add-one, arith}
+use Rattle.std.proofs.Common.{◌≡◌, ℕ, suc, ◌+◌, ◌<◌, List, length, get_or, set, sym, refl, ap, ◌∙◌, add-one, arith}
 use Rattle.std.proofs.lemmas.List.{set-get_or}
 use Rattle.codes.specs.Meaning.{Meaning, differ}
 use Rattle.job_rules.specs.declared.records.Standing.{Standing}
@@ -13,8 +13,7 @@ use Rattle.job_rules.specs.Lines.{Becomes, InOrder, where_differ}
 use Rattle.job_rules.specs.Passes.{Progress, Turn, turn}
 use Rattle.job_rules.proofs.Places.{wd_self}
 use Rattle.codes.proofs.Views.{Shows, becomes_same}
-use Rattle.job_rules.proofs.Lengths.{turns_long}
-use Rattle.job_rules.proofs.Tallies.{Keeping, turn_kept, none_kept}
+use Rattle.job_rules.proofs.Tallies.{turn_kept, none_kept}
 use Rattle.passes.specs.Steps.{By, Visited, sofar, MadeTo}
 
 in_order_none : {S : Type 0} (step : ℕ → S → S → Type 0) (s : S) → InOrder step 0 s s

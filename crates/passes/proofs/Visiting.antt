@@ -1,5 +1,5 @@
 -- A pass that comes to one line.
-use Rattle.std.proofs.Common.{◌≡◌, ℕ, ◌<◌, ◌≤◌, List, get_or, set, sym, refl, ap, ◌∙◌, subst, arith}
+use Rattle.std.proofs.Common.{◌≡◌, ℕ, ◌≤◌, List, get_or, set, sym, refl, ap, ◌∙◌, subst, arith}
 use Rattle.codes.specs.Meaning.{Meaning, Lawful}
 use Rattle.job_rules.specs.declared.records.Standing.{Standing}
 use Rattle.job_rules.specs.declared.records.Standing.TheVariants.{Open, Sound, Stuck}

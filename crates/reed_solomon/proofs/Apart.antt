@@ -1,16 +1,14 @@
 -- Two codewords that differ at few places are equal.
-use Rattle.std.proofs.Common.{◌≡◌, ℕ, zero, suc, ◌+◌, ◌-◌, ◌*◌, ◌/◌, ◌<◌, ◌≤◌, Bool, true, false, cond, eqb, List, [], ◌∷◌, length, get_or, sym, refl, ap, ◌∙◌, subst, ap₂, arith, eq-eqb, eqb-true}
+use Rattle.std.proofs.Common.{◌≡◌, ℕ, ◌+◌, ◌-◌, ◌<◌, ◌≤◌, Bool, true, false, cond, eqb, List, length, get_or, sym, refl, ap, ◌∙◌, subst, arith, eq-eqb, eqb-true}
 use Rattle.std.proofs.lemmas.List.{ext_get_or}
 use Rattle.fields.specs.Laws.{Meaning, FieldLaws}
-use Rattle.algebra.proofs.Field.{Field}
 use Rattle.algebra.proofs.Ring.{same_of_sum}
-use Rattle.algebra.proofs.Weights.{weight, sums_of_error}
+use Rattle.algebra.proofs.Weights.{sums_of_error}
 use Rattle.algebra.proofs.FirstRoot.{light_from}
 use Rattle.algebra.proofs.Places.{syndrome as theirs}
-use Rattle.algebra.proofs.Elements.{Element, field, el, el_same, el_zero}
+use Rattle.algebra.proofs.Elements.{el_same, el_zero}
 use Rattle.algebra.specs.Lines.{Elements, syndrome}
 use Rattle.codes.specs.Meaning.{differ, Below, Word}
-use Rattle.reed_solomon.specs.Numbers.{Within}
 use Rattle.reed_solomon.specs.Words.{zeros, reed_solomon_code}
 use Rattle.reed_solomon.specs.Theorems.{Distance}
 use Rattle.algebra.proofs.Numbers.{K, ⟨◌⟩, at}

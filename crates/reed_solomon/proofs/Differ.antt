@@ -1,11 +1,10 @@
 -- The places at which two lines differ, as the weight of their difference.
-use Rattle.std.proofs.Common.{◌≡◌, ℕ, zero, suc, ◌+◌, ◌<◌, ◌≤◌, Bool, true, false, cond, eqb, List, [], ◌∷◌, length, get_or, sym, refl, ap, ◌∙◌, ap₂, arith, eq-eqb, eqb-true}
+use Rattle.std.proofs.Common.{◌≡◌, ℕ, zero, suc, ◌+◌, ◌<◌, Bool, true, false, cond, eqb, List, [], ◌∷◌, length, get_or, refl, ap, ◌∙◌, arith, eq-eqb, eqb-true}
 use Rattle.fields.specs.Laws.{Meaning, FieldLaws}
-use Rattle.algebra.proofs.Field.{Field}
 use Rattle.algebra.proofs.Ring.{same_of_sum}
 use Rattle.algebra.proofs.Weights.{weight}
 use Rattle.algebra.proofs.FirstRoot.{weight_front_zero, weight_front_more}
-use Rattle.algebra.proofs.Elements.{Element, field, el, el_same}
+use Rattle.algebra.proofs.Elements.{Element, el_same}
 use Rattle.codes.specs.Meaning.{differ, Below}
 use Rattle.algebra.proofs.Numbers.{K, ⟨◌⟩, at}
 

@@ -1,9 +1,9 @@
 -- The repetition code: the majority is the codeword in reach, and two codewords differ everywhere.
-use Rattle.std.specs.Prelude.{◌≡◌, ℕ, zero, suc, ◌+◌, ◌-◌, ◌*◌, ◌/◌, ◌<◌, ◌≤◌, Bool, true, false, cond, List, [], ◌∷◌, length, take, replicate, ◌==◌, ◌≢◌, slice_index, slice_index_or, refl}
+use Rattle.std.specs.Prelude.{◌≡◌, ℕ, zero, suc, ◌+◌, ◌*◌, ◌<◌, ◌≤◌, Bool, true, false, cond, List, [], ◌∷◌, length, take, replicate, ◌==◌, ◌≢◌, slice_index, slice_index_or, refl}
 use Rattle.std.proofs.Common.{sym, ap, subst, ◌∙◌, arith, add-one, eq-eqb, eqb-true}
 use Rattle.std.proofs.Math.Decide.{ℕ_discrete}
 use Rattle.std.proofs.lemmas.List.{length-replicate}
-use Rattle.codes.specs.Meaning.{differ, Below, Word, Lawful, InReach}
+use Rattle.codes.specs.Meaning.{differ, Below, Word, Lawful}
 use Rattle.codes.specs.Answers.{Mends, Sticks}
 use Rattle.small_codes.specs.Repetition.{unlike, each, alike, repetition}
 

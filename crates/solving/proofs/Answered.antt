@@ -1,10 +1,10 @@
 -- From a shortest recurrence to the solver's answer.
-use Rattle.std.proofs.Common.{◌≡◌, ℕ, suc, ◌+◌, ◌-◌, ◌*◌, ◌<◌, ◌≤◌, List, length, get_or, take, Some, None, Option, sym, refl, ap, ◌∙◌, subst, arith, length-take, get_or-take, MatchOption}
+use Rattle.std.proofs.Common.{◌≡◌, ℕ, ◌+◌, ◌-◌, ◌*◌, ◌<◌, ◌≤◌, List, length, get_or, take, Some, None, Option, sym, subst, arith, length-take, get_or-take, MatchOption}
 use Rattle.fields.specs.Laws.{Meaning}
 use Rattle.algebra.specs.Lines.{Elements}
 use Rattle.solving.specs.declared.polynomial.Polynomial.{Polynomial}
 use Rattle.solving.specs.Sequences.{coefficients}
-use Rattle.solving.specs.Solving.{Explains, Locates, LocatesAll, Solves, FreeChoice}
+use Rattle.solving.specs.Solving.{Locates, LocatesAll, Solves, FreeChoice}
 
 pub elements_take : (m : Meaning) (k : ℕ) (p : List ℕ) → Elements m p → Elements m (take k p)
 elements_take m k p h i l =

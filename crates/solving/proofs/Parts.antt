@@ -1,5 +1,5 @@
 -- The front of a room that a list was copied into.
-use Rattle.std.proofs.Common.{◌≡◌, ℕ, zero, suc, ◌<◌, List, [], ◌∷◌, ◌++◌, length, get_or, take, sym, ap, ◌∙◌, subst, arith, get_or-take}
+use Rattle.std.proofs.Common.{◌≡◌, ℕ, ◌<◌, List, ◌++◌, length, get_or, take, sym, ap, ◌∙◌, subst, get_or-take}
 use lib.Seq.{take-append_seam}
 
 pub front : (put xs rest : List ℕ) (n : ℕ) → put ≡ xs → n ≡ length xs → take n (put ++ rest) ≡ xs

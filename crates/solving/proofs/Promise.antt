@@ -1,8 +1,7 @@
 -- A shortest recurrence keeps the solver's promise.
-use Rattle.std.proofs.Common.{◌≡◌, ℕ, zero, suc, ◌+◌, ◌-◌, ◌<◌, ◌≤◌, List, length, get_or, take, sym, refl, ap, ◌∙◌, subst, ap₂, arith, length-take-le, get_or-take}
-use native.Mathlib.Decide.{ℕ_discrete, dec_lt}
+use Rattle.std.proofs.Common.{◌≡◌, ℕ, suc, ◌+◌, ◌<◌, ◌≤◌, List, length, get_or, take, sym, ap, ◌∙◌, subst, arith, length-take-le, get_or-take}
+use native.Mathlib.Decide.{ℕ_discrete}
 use Rattle.fields.specs.Laws.{Meaning, FieldLaws}
-use Rattle.fields.specs.Laws.{power as raised}
 use Rattle.algebra.proofs.Field.{Field}
 use Rattle.algebra.specs.Sums.{value}
 use Rattle.algebra.proofs.Ring.{zero_mul}
@@ -10,8 +9,8 @@ use Rattle.algebra.proofs.Sums.{sum_cong}
 use Rattle.algebra.proofs.Places.{power, eval, syndrome, Distinct}
 use Rattle.algebra.proofs.Polynomials.{eval_more, eval_cong}
 use Rattle.algebra.proofs.Roots.{no_more_roots}
-use Rattle.algebra.proofs.Massey.{Generates, generates_cong}
-use Rattle.algebra.proofs.Berlekamp.{State, Found}
+use Rattle.algebra.proofs.Massey.{generates_cong}
+use Rattle.algebra.proofs.Berlekamp.{Found}
 use Rattle.algebra.proofs.Locator.{locator, locator_generates, Errors, located, inv_same}
 use Rattle.algebra.proofs.Locator.{Locates as Located}
 use Rattle.algebra.proofs.Elements.{Element, el_zero, el_mul, el_inv, el_power, el_same, el_none, el_some}

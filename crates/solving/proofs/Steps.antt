@@ -1,5 +1,5 @@
 -- The algorithm's steps, in lists of numbers.
-use Rattle.std.proofs.Common.{◌≡◌, ℕ, zero, suc, ◌+◌, ◌-◌, ◌<◌, ◌≤◌, ◌⊎◌, List, length, get_or, set, sym, refl, ap, ◌∙◌, subst, ap₂, inl, inr, arith, length-set, get_or-set_other, get_or-set_same}
+use Rattle.std.proofs.Common.{◌≡◌, ℕ, zero, suc, ◌<◌, ◌≤◌, ◌⊎◌, List, length, get_or, set, sym, refl, ap, ◌∙◌, subst, ap₂, inl, inr, arith, length-set, get_or-set_other, get_or-set_same}
 use mathlib.Core.Path.{transport, fun_ext}
 use native.Mathlib.Decide.{dec_lt}
 use lib.ListN.{get_or-eq_default}
@@ -9,8 +9,8 @@ use Rattle.algebra.proofs.Ring.{mul_zero}
 use Rattle.algebra.proofs.Sums.{sum_cong}
 use Rattle.algebra.proofs.Product.{product, product_sum}
 use Rattle.algebra.proofs.Polynomials.{up}
-use Rattle.algebra.proofs.Berlekamp.{State, Found, unit, mix, step_kept, step_grown, start, start_found, wrong, kept, grown}
-use Rattle.algebra.proofs.Elements.{Element, some, el_zero, el_one, el_add, el_mul, el_none, el_some}
+use Rattle.algebra.proofs.Berlekamp.{State, Found, unit, mix, step_kept, step_grown, start, start_found, wrong}
+use Rattle.algebra.proofs.Elements.{Element, some, el_zero, el_one, el_add, el_mul, el_some}
 use Rattle.solving.specs.Steps.{coefficient, mixed, shifted}
 use Rattle.algebra.proofs.Numbers.{K, ⟨◌⟩, at, el_sums, sums_below}
 

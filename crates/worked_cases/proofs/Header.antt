@@ -5,14 +5,13 @@ use mathlib.Core.Bool.{false}
 use Prim.Native.Nat.{ℕ, zero, suc, ◌+◌, ◌-◌, ◌<◌, ◌≤◌}
 use native.Mathlib.Omega.{arith}
 use lib.Dec.{eqb, lit<}
-use lib.ListN.{length, get_or}
+use lib.ListN.{get_or}
 use borrow.Author.Tests.{eq-eqb}
 use Rattle.fields.specs.Binary.{disc, product}
 use Rattle.fields.specs.Laws.{power, cap}
 use Rattle.fields.specs.Fields.{disc_laws}
 use Rattle.algebra.specs.Lines.{Elements, syndrome}
 use Rattle.algebra.specs.Sums.{sums}
-use Rattle.codes.specs.Meaning.{InReach}
 use Rattle.codes.specs.Answers.{Sticks}
 use Rattle.reed_solomon.specs.declared.numbers.CodeNumbers.{CodeNumbers}
 use Rattle.solving.specs.Solving.{Explains, power_sum}

@@ -1,4 +1,4 @@
-use Rattle.std.proofs.Common.{◌≡◌, ℕ, ◌+◌, ◌-◌, ◌*◌, ◌<◌, ◌≤◌, List, length, take, drop, sym, refl, ap, ◌∙◌, subst, arith, length-drop, length-take, rules, below_more}
+use Rattle.std.proofs.Common.{◌≡◌, ℕ, ◌+◌, ◌-◌, ◌*◌, ◌<◌, ◌≤◌, List, length, take, drop, sym, refl, ◌∙◌, subst, arith, length-drop, length-take, rules, below_more}
 use borrow.Rule.Slice.PartMut.{put_mid}
 use Rattle.fields.specs.Binary.{disc}
 use Rattle.codes.specs.Meaning.{Word}

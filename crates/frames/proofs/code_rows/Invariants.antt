@@ -1,4 +1,4 @@
-use Rattle.std.proofs.Common.{◌≡◌, ℕ, ◌<◌, ◌≤◌, length}
+use Rattle.std.proofs.Common.{ℕ, ◌<◌}
 use Rattle.fields.specs.Binary.{disc}
 use Rattle.codes.specs.Meaning.{Word}
 use Rattle.codes.specs.Frames.{row}

@@ -1,4 +1,4 @@
-use Rattle.std.proofs.Common.{◌≡◌, ℕ, ◌+◌, ◌-◌, ◌*◌, ◌<◌, false, ◌≢◌, length, get_or, take, drop, subst, arith, get_or-set_other, get_or-set_same, rules, below_more}
+use Rattle.std.proofs.Common.{◌≡◌, ℕ, ◌+◌, ◌-◌, ◌*◌, ◌<◌, ◌≢◌, length, take, drop, subst, arith, get_or-set_other, get_or-set_same, rules, below_more}
 use Rattle.fields.specs.Binary.{disc}
 use Rattle.codes.specs.Meaning.{Word}
 use Rattle.codes.proofs.Rows.{row_end}

@@ -1,21 +1,20 @@
 use mathlib.Core.Path.{◌≡◌, refl, sym, ◌∙◌}
 use mathlib.Core.List.{List}
-use Prim.Native.Nat.{ℕ, zero, suc, ◌+◌, ◌-◌, ◌<◌, ◌≤◌}
+use Prim.Native.Nat.{ℕ, zero, suc}
 use native.Mathlib.Omega.{arith}
 use lib.Dec.{lit<, lit≤}
-use lib.ListN.{length, get_or}
 use Rattle.fields.specs.Laws.{cap}
 use Rattle.fields.specs.Binary.{disc, product}
 use Rattle.fields.specs.Fields.{disc_laws}
 use Rattle.algebra.specs.Sums.{sums}
 use Rattle.algebra.specs.Lines.{syndrome}
-use Rattle.codes.specs.Meaning.{Word, differ}
+use Rattle.codes.specs.Meaning.{Word}
 use Rattle.codes.specs.Answers.{Mends}
 use Rattle.codes.proofs.Nearest.{beyond}
 use Rattle.reed_solomon.specs.Numbers.{Within}
 use Rattle.reed_solomon.specs.Words.{zeros}
 use Rattle.reed_solomon.proofs.Apart.{apart}
-use Rattle.coding.specs.Coding.{Codes, SameMessage}
+use Rattle.coding.specs.Coding.{SameMessage}
 use Rattle.coding.proofs.Divided.{differ_tail}
 use Rattle.decoder.specs.Lawful.{lawful}
 use Rattle.reed_solomon.specs.Disc.{disc_header_code}

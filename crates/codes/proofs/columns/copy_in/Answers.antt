@@ -1,4 +1,4 @@
-use Rattle.std.proofs.Common.{◌≡◌, ℕ, ◌+◌, ◌*◌, ◌<◌, ◌≢◌, length, sym, refl, arith, get_or-set_other, get_or-set_same, below_more}
+use Rattle.std.proofs.Common.{◌+◌, ◌*◌, ◌<◌, ◌≢◌, length, sym, refl, arith, get_or-set_other, get_or-set_same, below_more}
 use Rattle.codes.proofs.Places.{place_lt, column_is, columns_same, same_row, same_column}
 use Rattle.codes.proofs.columns.copy_in.Goals as goal
 

@@ -1,4 +1,4 @@
-use Rattle.std.proofs.Common.{◌≡◌, ℕ, ◌+◌, ◌-◌, ◌<◌, ◌≤◌, length, get_or, take, sym, refl, ap, ◌∙◌, subst, arith, length-take-le, get_or-take}
+use Rattle.std.proofs.Common.{◌≡◌, ℕ, ◌+◌, ◌-◌, ◌<◌, length, take, sym, refl, ◌∙◌, subst, arith, length-take-le, get_or-take}
 use Rattle.coding.specs.Division.{Remains}
 use Rattle.coding.proofs.Divided.{completed, taken_zero}
 use Rattle.coding.proofs.coder.complete.Goals as goal

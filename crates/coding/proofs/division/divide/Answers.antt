@@ -1,4 +1,4 @@
-use Rattle.std.proofs.Common.{◌≡◌, ℕ, ◌+◌, ◌<◌, length, get_or, sym, refl, ap, ◌∙◌, subst, arith}
+use Rattle.std.proofs.Common.{◌≡◌, ℕ, ◌+◌, ◌<◌, length, sym, refl, subst, arith}
 use Rattle.algebra.proofs.Elements.{some}
 use Rattle.coding.proofs.Register.{Fed}
 use Rattle.coding.proofs.Divided.{fed_start, fed_step, remains_of}

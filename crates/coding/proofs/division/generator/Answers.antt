@@ -1,4 +1,4 @@
-use Rattle.std.proofs.Common.{◌≡◌, ℕ, suc, ◌+◌, ◌-◌, ◌<◌, length, get_or, sym, refl, ap, ◌∙◌, subst, ap₂, add-zero, add-suc, add-one, arith, length-set}
+use Rattle.std.proofs.Common.{◌≡◌, ℕ, suc, ◌+◌, ◌-◌, length, sym, ap, ◌∙◌, subst, ap₂, add-zero, arith, length-set}
 use Rattle.fields.specs.Laws.{power}
 use Rattle.coding.proofs.Register.{Multiplied}
 use Rattle.coding.proofs.Divided.{one_below, gen_start, gen_step, generator_of}

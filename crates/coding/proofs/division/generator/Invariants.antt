@@ -1,4 +1,4 @@
-use Rattle.std.proofs.Common.{◌≡◌, ℕ, ◌+◌, ◌<◌, ◌≤◌, length, get_or}
+use Rattle.std.proofs.Common.{◌≡◌, ◌+◌}
 use Rattle.fields.specs.Laws.{power}
 use Rattle.algebra.specs.Lines.{Elements}
 use Rattle.coding.proofs.Register.{Multiplied}

@@ -1,4 +1,4 @@
-use Rattle.std.proofs.Common.{◌≡◌, ℕ, suc, ◌+◌, ◌<◌, true, false, List, length, get_or, set, sym, refl, ap, ◌∙◌, subst, add-one, arith, rules}
+use Rattle.std.proofs.Common.{◌≡◌, ℕ, ◌+◌, true, List, length, get_or, set, sym, refl, ap, ◌∙◌, subst, add-one, arith, rules}
 use Rattle.codes.specs.Meaning.{Word}
 use Rattle.reed_solomon.specs.Lines.{code_of}
 use Rattle.guard.specs.Guarded.{bytes, restored}

@@ -1,4 +1,4 @@
-use Rattle.std.proofs.Common.{◌≡◌, ℕ, ◌<◌, List, length, get_or, sym, ap, ◌∙◌, subst, arith}
+use Rattle.std.proofs.Common.{◌≡◌, ℕ, ◌<◌, List, length, get_or, sym, ap, ◌∙◌, subst}
 use Rattle.solving.specs.Sequences.{terms}
 use Rattle.errors.proofs.Decided.{unchanged, unreadable}
 use Rattle.reed_solomon.specs.declared.numbers.CodeNumbers.{CodeNumbers}

@@ -1,4 +1,4 @@
-use Rattle.std.proofs.Common.{◌≡◌, ℕ, suc, ◌-◌, ◌<◌, ◌≤◌, List, length, get_or, sym, refl, ap, ◌∙◌, subst, add-one, arith, length-take-le}
+use Rattle.std.proofs.Common.{◌≡◌, ℕ, suc, ◌-◌, List, length, sym, ap, subst, arith, length-take-le}
 use Rattle.algebra.specs.Lines.{Elements}
 use Rattle.codes.specs.Answers.{Mends}
 use Rattle.reed_solomon.specs.Lines.{code_of}

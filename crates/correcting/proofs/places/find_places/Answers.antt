@@ -1,5 +1,5 @@
-use Rattle.std.proofs.Common.{◌≡◌, ℕ, suc, ◌+◌, ◌<◌, ◌≤◌, Bool, true, false, List, length, get_or, set, sym, refl, ap, ◌∙◌, subst, add-one, arith, length-set}
-use Rattle.errors.specs.Places.{root_at, count, Lists, Rises}
+use Rattle.std.proofs.Common.{◌≡◌, ℕ, suc, ◌<◌, ◌≤◌, true, false, List, length, set, sym, ap, ◌∙◌, subst, add-one, arith, length-set}
+use Rattle.errors.specs.Places.{root_at, count, Rises}
 use Rattle.errors.proofs.Listed.{moved, lists_none, lists_skip, lists_take, rises_none, rises_take, count_none, count_skip, count_take, count_past}
 use Rattle.correcting.proofs.places.find_places.Goals as goal
 

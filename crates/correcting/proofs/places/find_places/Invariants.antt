@@ -1,4 +1,4 @@
-use Rattle.std.proofs.Common.{◌≡◌, ℕ, ◌<◌, ◌≤◌, length, get_or}
+use Rattle.std.proofs.Common.{◌≡◌, ◌≤◌, length}
 use Rattle.errors.specs.Places.{root_at, count, Lists, Rises}
 use Rattle.correcting.proofs.places.find_places.Given as goal
 

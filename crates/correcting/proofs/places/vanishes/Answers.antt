@@ -1,6 +1,6 @@
-use Rattle.std.proofs.Common.{◌≡◌, ℕ, suc, ◌+◌, ◌-◌, ◌<◌, eqb, length, get_or, sym, refl, ap, ◌∙◌, subst, ap₂, add-one, arith, rules}
+use Rattle.std.proofs.Common.{◌≡◌, ℕ, suc, ◌-◌, ◌<◌, eqb, length, get_or, sym, ap, ◌∙◌, subst, add-one, arith}
 use Rattle.algebra.specs.Sums.{value}
-use Rattle.errors.proofs.Horner.{horner, horner_none, horner_more, horner_below, horner_value}
+use Rattle.errors.proofs.Horner.{horner, horner_none, horner_more, horner_value}
 use Rattle.correcting.proofs.places.vanishes.Goals as goal
 
 pub loop-coefficient-init : goal.loop-coefficient-init

@@ -1,4 +1,4 @@
-use Rattle.std.proofs.Common.{◌≡◌, ℕ, suc, ◌-◌, ◌<◌, get_or}
+use Rattle.std.proofs.Common.{◌≡◌}
 use Rattle.errors.proofs.Horner.{horner}
 use Rattle.correcting.proofs.places.vanishes.Given as goal
 

@@ -1,5 +1,4 @@
-use Rattle.std.proofs.Common.{◌≡◌, ℕ, ◌+◌, ◌-◌, ◌<◌, length, get_or, take, sym, ap, ◌∙◌, subst, arith}
-use Rattle.errors.specs.Places.{located_at, Weighs}
+use Rattle.std.proofs.Common.{◌≡◌, ℕ, ◌-◌, ◌<◌, length, get_or, take, sym, ap, ◌∙◌, subst, arith}
 use Rattle.correcting.proofs.Fronts.{front_length, front_at}
 use Rattle.correcting.proofs.values.corrected.Goals as goal
 

@@ -1,7 +1,6 @@
-use Rattle.std.proofs.Common.{◌≡◌, ℕ, suc, ◌+◌, ◌<◌, ◌≤◌, List, length, get_or, sym, refl, ap, ◌∙◌, subst, ap₂, arith}
-use Rattle.fields.specs.Laws.{power}
+use Rattle.std.proofs.Common.{◌≡◌, ℕ, ◌+◌, ◌<◌, List, length, get_or, sym, ap, ◌∙◌, subst, arith}
 use Rattle.algebra.specs.Lines.{Elements}
-use Rattle.errors.specs.Places.{located_at, Weighs}
+use Rattle.errors.specs.Places.{located_at}
 use Rattle.errors.proofs.Weighed.{Left, Over, left_start, over_start, left_pass, over_pass, left_step, over_step, weighed}
 use Rattle.correcting.proofs.values.error_value.Goals as goal
 

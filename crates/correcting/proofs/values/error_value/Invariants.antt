@@ -1,4 +1,4 @@
-use Rattle.std.proofs.Common.{◌≡◌, ℕ, ◌+◌, ◌<◌, ◌≤◌, length, get_or}
+use Rattle.std.proofs.Common.{length}
 use Rattle.algebra.specs.Lines.{Elements}
 use Rattle.errors.specs.Places.{located_at}
 use Rattle.errors.proofs.Weighed.{Left, Over}

@@ -1,4 +1,4 @@
-use Rattle.std.proofs.Common.{ℕ, arith}
+use Rattle.std.proofs.Common.{arith}
 use Rattle.fields.specs.Binary.{disc}
 use Rattle.fields.specs.Fields.{disc_laws}
 use Rattle.reed_solomon.specs.Numbers.{Within}

@@ -1,4 +1,4 @@
-use Rattle.std.proofs.Common.{◌≡◌, ℕ, ◌-◌, ◌*◌, ◌<◌, ◌≤◌, length, take, sym, refl, ap, ◌∙◌, subst, arith, length-take-le}
+use Rattle.std.proofs.Common.{◌≡◌, ℕ, ◌-◌, ◌*◌, ◌<◌, length, take, ◌∙◌, subst, arith, length-take-le}
 use Rattle.fields.specs.Binary.{disc}
 use Rattle.fields.specs.Fields.{disc_laws}
 use Rattle.codes.specs.Meaning.{Word}

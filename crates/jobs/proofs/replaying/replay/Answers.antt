@@ -1,8 +1,6 @@
-use Rattle.std.proofs.Common.{◌≡◌, ℕ, ◌<◌, ◌≤◌, List, map, length, get_or, sym, refl, ap, ◌∙◌, subst, arith}
+use Rattle.std.proofs.Common.{◌<◌, ◌≤◌, length, ap, ◌∙◌, arith}
 use Rattle.std.proofs.lemmas.List.{get_or_default}
-use Rattle.codes.specs.Meaning.{Meaning}
-use Rattle.job_rules.specs.Passes.{State, start}
-use Rattle.job_rules.specs.Promise.{Gives}
+use Rattle.job_rules.specs.Passes.{start}
 use Rattle.job_rules.proofs.Promised.{promised}
 use Rattle.jobs.specs.States.{state}
 use Rattle.jobs.proofs.Performing.{nobody, requests, along_none, along_more, along_all, along_given, answers_so_far, gives_same}

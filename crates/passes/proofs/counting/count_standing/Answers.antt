@@ -1,4 +1,4 @@
-use Rattle.std.proofs.Common.{◌≡◌, ◌<◌, min, true, false, length, get_or, take, sym, refl, ap, ◌∙◌, arith}
+use Rattle.std.proofs.Common.{◌≡◌, ◌<◌, min, length, sym, ap, ◌∙◌, arith}
 use Rattle.job_rules.proofs.Places.{takes_same}
 use Rattle.std.proofs.lemmas.List.Sums.{count_by_more_yes, count_by_more_no}
 use Rattle.job_rules.specs.Records.{fresh, on, is_same_standing, how_many}

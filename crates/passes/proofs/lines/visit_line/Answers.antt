@@ -1,4 +1,4 @@
-use Rattle.std.proofs.Common.{◌≡◌, length, take, sym, ap, ◌∙◌, arith}
+use Rattle.std.proofs.Common.{◌≡◌, length, take, ap, ◌∙◌}
 use Rattle.passes.proofs.Visiting.{visited, by_few, by_low}
 use Rattle.passes.proofs.lines.visit_line.Goals as goal
 

@@ -1,4 +1,4 @@
-use Rattle.std.proofs.Common.{◌≡◌, length, get_or, take, set, sym, refl, ap, ◌∙◌, subst, arith, rules, eq-eqb, ne_eqb}
+use Rattle.std.proofs.Common.{◌≡◌, length, get_or, take, set, sym, ap, ◌∙◌, arith, rules, eq-eqb, ne_eqb}
 use Rattle.std.proofs.lemmas.List.{take_all, set-get_or}
 use Rattle.job_rules.specs.Records.{fresh, opened, on}
 use Rattle.job_rules.specs.Lines.{where_differ}

@@ -1,8 +1,7 @@
-use Rattle.std.proofs.Common.{◌≡◌, ℕ, ◌+◌, ◌-◌, ◌*◌, ◌^◌, ◌<◌, ◌≤◌, List, length, get_or, take, drop, sym, refl, ap, ◌∙◌, subst, arith, length-drop, length-take, rules}
+use Rattle.std.proofs.Common.{◌≡◌, ℕ, ◌+◌, ◌-◌, ◌*◌, ◌<◌, ◌≤◌, List, length, get_or, take, drop, sym, refl, ap, ◌∙◌, subst, arith, length-drop, length-take, rules}
 use Rattle.job_rules.specs.declared.records.Kind.TheVariants.{Row}
 use Rattle.job_rules.specs.Records.{fresh, on}
 use Rattle.job_rules.specs.Lines.{row}
-use Rattle.job_rules.specs.Passes.{Progress}
 use Rattle.codes.proofs.Rows.{row_end}
 use Rattle.passes.specs.Steps.{sofar, MadeTo}
 use Rattle.passes.proofs.Turning.{made_none}

@@ -1,4 +1,4 @@
-use Rattle.std.proofs.Common.{◌≡◌, ℕ, ◌<◌, ◌≢◌, length, get_or, sym, ap, ◌∙◌, subst, ap₂, le_refl, arith, get_or-set_other, get_or-set_same, below_more}
+use Rattle.std.proofs.Common.{ℕ, ◌<◌, ◌≢◌, length, get_or, sym, ◌∙◌, subst, ap₂, le_refl, arith, get_or-set_other, get_or-set_same, below_more}
 use Rattle.algebra.proofs.Lines.{power_step}
 use Rattle.reed_solomon.proofs.syndromes.enter.Goals as goal
 

@@ -1,4 +1,4 @@
-use Rattle.std.proofs.Common.{◌≡◌, ℕ, suc, ◌-◌, ◌<◌, ◌≢◌, length, get_or, set, sym, ap, ◌∙◌, subst, ap₂, arith, get_or-set_other, get_or-set_same}
+use Rattle.std.proofs.Common.{◌≡◌, ℕ, suc, ◌-◌, ◌<◌, length, get_or, set, sym, ap, ◌∙◌, subst, ap₂, arith, get_or-set_other, get_or-set_same}
 use native.Mathlib.Decide.{ℕ_discrete}
 use Rattle.fields.specs.Laws.{power}
 use Rattle.reed_solomon.proofs.syndromes.locators.Goals as goal

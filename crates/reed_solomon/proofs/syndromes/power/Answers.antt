@@ -1,4 +1,4 @@
-use Rattle.std.proofs.Common.{◌≡◌, sym, ap, ◌∙◌, add-one}
+use Rattle.std.proofs.Common.{sym, ap, ◌∙◌, add-one}
 use Rattle.fields.specs.Laws.{power}
 use Rattle.reed_solomon.proofs.syndromes.power.Goals as goal
 

@@ -1,4 +1,4 @@
-use Rattle.std.proofs.Common.{◌≡◌, ℕ, suc, ◌+◌, ◌-◌, ◌<◌, length, get_or, set, sym, ap, ◌∙◌, subst, ap₂, add-one, arith, rules}
+use Rattle.std.proofs.Common.{◌≡◌, ℕ, ◌+◌, ◌-◌, ◌<◌, length, get_or, sym, ap, ◌∙◌, subst, ap₂, add-one, arith}
 use Rattle.fields.specs.Laws.{power}
 use Rattle.algebra.specs.Sums.{sums}
 use Rattle.algebra.specs.Lines.{term, syndrome}

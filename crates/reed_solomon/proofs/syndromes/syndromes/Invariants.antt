@@ -1,4 +1,4 @@
-use Rattle.std.proofs.Common.{◌≡◌, ℕ, ◌+◌, ◌-◌, ◌<◌, ◌≤◌, length, get_or}
+use Rattle.std.proofs.Common.{◌≡◌, ℕ, ◌+◌, ◌<◌, length, get_or}
 use Rattle.algebra.specs.Sums.{sums}
 use Rattle.algebra.specs.Lines.{term}
 use Rattle.reed_solomon.proofs.syndromes.syndromes.Given as goal

@@ -1,4 +1,4 @@
-use Rattle.std.proofs.Common.{◌≡◌, ℕ, ◌+◌, sym, ◌∙◌, arith}
+use Rattle.std.proofs.Common.{sym, ◌∙◌, arith}
 use Rattle.reed_solomon.proofs.Zeros.{zeros_is}
 use Rattle.reed_solomon.proofs.syndromes.vanish.Goals as goal
 

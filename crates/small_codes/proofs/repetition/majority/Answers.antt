@@ -1,4 +1,4 @@
-use Rattle.std.proofs.Common.{◌≡◌, length, sym, ap, ◌∙◌, arith}
+use Rattle.std.proofs.Common.{length, ap, arith}
 use native.Mathlib.Decide.{dec_lt}
 use Rattle.codes.proofs.Lines.{all_below}
 use Rattle.small_codes.specs.Repetition.{unlike}

@@ -1,4 +1,4 @@
-use Rattle.std.proofs.Common.{◌≡◌, length, get_or, take, sym, ap, ◌∙◌, arith, take_all}
+use Rattle.std.proofs.Common.{get_or, sym, ap, ◌∙◌, arith, take_all}
 use Rattle.small_codes.specs.Repetition.{unlike}
 use Rattle.small_codes.specs.Majority.{unlike_none, unlike_more, counts, passes}
 use Rattle.small_codes.proofs.repetition.others.Goals.{then-byte-symbol, else-byte-symbol}

@@ -1,4 +1,4 @@
-use Rattle.std.proofs.Common.{◌≡◌, ℕ, suc, ◌+◌, ◌-◌, ◌<◌, get_or, sym, ap, ◌∙◌, subst, ap₂, add-one, arith}
+use Rattle.std.proofs.Common.{◌≡◌, ℕ, suc, ◌-◌, ◌<◌, get_or, sym, ap, ◌∙◌, subst, ap₂, add-one, arith}
 use Rattle.algebra.specs.Sums.{sums}
 use Rattle.solving.specs.Steps.{coefficient}
 use Rattle.algebra.proofs.Numbers.{sums_none, sums_more, sums_below}

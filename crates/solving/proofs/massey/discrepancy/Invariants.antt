@@ -1,4 +1,4 @@
-use Rattle.std.proofs.Common.{◌≡◌, ℕ, ◌-◌, get_or}
+use Rattle.std.proofs.Common.{◌≡◌, ◌-◌, get_or}
 use Rattle.algebra.specs.Sums.{sums}
 use Rattle.solving.proofs.massey.discrepancy.Given as goal
 

@@ -1,4 +1,4 @@
-use Rattle.std.proofs.Common.{◌≡◌, ℕ, ◌<◌, ◌≢◌, length, sym, ap, ◌∙◌, subst, ap₂, le_refl, arith, get_or-set_other, get_or-set_same, below_more}
+use Rattle.std.proofs.Common.{ℕ, ◌<◌, ◌≢◌, length, sym, ap, ◌∙◌, subst, ap₂, le_refl, arith, get_or-set_other, get_or-set_same, below_more}
 use Rattle.solving.proofs.massey.mend.Goals as goal
 
 pub loop-i-preserved : goal.loop-i-preserved

@@ -1,4 +1,4 @@
-use Rattle.std.proofs.Common.{◌≡◌, ℕ, suc, ◌+◌, ◌<◌, ◌≤◌, ◌≢◌, List, length, get_or, take, sym, refl, ap, ◌∙◌, subst, inl, inr, add-one, arith, length-set, rules}
+use Rattle.std.proofs.Common.{◌≡◌, ℕ, ◌+◌, ◌<◌, List, length, get_or, take, sym, refl, ◌∙◌, subst, inl, inr, add-one, arith, length-set}
 use Rattle.solving.specs.Steps.{mixed, shifted}
 use Rattle.solving.proofs.Steps.{one_below, start_here, kept_lists, grown_lists, found_move}
 use Rattle.solving.specs.Solving.{Locates}

@@ -1,6 +1,5 @@
-use Rattle.std.proofs.Common.{◌≡◌, ℕ, ◌-◌, length, sym, ap, ◌∙◌, subst, arith}
+use Rattle.std.proofs.Common.{◌≡◌, ◌-◌, length, subst, arith}
 use Rattle.fields.specs.Laws.{Meaning}
-use Rattle.fields.specs.Binary.{disc}
 use Rattle.coding.specs.Division.{Completed}
 use Rattle.coding.proofs.Divided.{codes_of}
 use Rattle.coding.proofs.coder.Coder.code.Goals as goal

@@ -2,7 +2,6 @@ use mathlib.Core.Path.{◌≡◌, sym, ap, ◌∙◌}
 use mathlib.Core.Logic.{◌⊎◌, inl, inr}
 use Prim.Native.Nat.{ℕ, ◌<◌}
 use native.Mathlib.Omega.{arith}
-use Rattle.fields.specs.Laws.{FieldLaws}
 use Rattle.fields.specs.Binary.{disc}
 use Rattle.fields.specs.Fields.{disc_tests, disc_laws}
 use Rattle.fields.proofs.Outside.{mul_left, mul_right}

@@ -1,6 +1,5 @@
-use Rattle.std.proofs.Common.{◌≡◌, ℕ, ◌+◌, ◌*◌, ◌<◌, List, Ok, sym, refl, ap, ◌∙◌, subst}
+use Rattle.std.proofs.Common.{◌≡◌, ℕ, List, Ok, sym, ◌∙◌, subst}
 use Rattle.codes.specs.Meaning.{Meaning, Lawful, differ}
-use Rattle.job_rules.specs.Promise.{Exactly, WholeReading, left}
 use Rattle.job_rules.specs.Copies.{Compared}
 use Rattle.job_rules.proofs.Promised.{Words, reading_words, words_equal}
 use Rattle.jobs.proofs.job.Job.compare.Goals as goal

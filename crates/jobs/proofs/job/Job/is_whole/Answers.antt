@@ -1,4 +1,4 @@
-use Rattle.std.proofs.Common.{◌≡◌, true, false, sym, refl, ap, ◌∙◌, eq-eqb, eqb-true}
+use Rattle.std.proofs.Common.{sym, ◌∙◌, eq-eqb, eqb-true}
 use Rattle.jobs.specs.States.{row_meaning, column_meaning, state}
 use Rattle.job_rules.proofs.Whole.{whole_exactly}
 use Rattle.jobs.proofs.job.Job.is_whole.Goals as goal

@@ -1,8 +1,8 @@
-use Rattle.std.proofs.Common.{◌≡◌, ℕ, ◌≤◌, List, take, replicate, sym, refl, ap, ◌∙◌, arith}
+use Rattle.std.proofs.Common.{◌≡◌, ℕ, ◌≤◌, List, take, replicate, refl, ap, ◌∙◌}
 use Rattle.std.proofs.lemmas.List.{take-replicate}
 use Rattle.job_rules.specs.declared.records.Record.{Record}
 use Rattle.job_rules.specs.Records.{fresh}
-use Rattle.job_rules.specs.Passes.{State, start, no_counts}
+use Rattle.job_rules.specs.Passes.{State, no_counts}
 use Rattle.jobs.proofs.job.Job.new.Goals as goal
 
 -- of 255 records never decoded, as many as there are lines

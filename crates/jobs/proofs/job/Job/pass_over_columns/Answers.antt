@@ -1,8 +1,8 @@
-use Rattle.std.proofs.Common.{◌≡◌, ◌+◌, ◌*◌, ◌≤◌, sym, refl, ap, ◌∙◌, subst, arith}
+use Rattle.std.proofs.Common.{◌*◌, ◌≤◌, sym, refl, ap, ◌∙◌, subst, arith}
 use Rattle.codes.specs.Meaning.{Meaning}
-use Rattle.job_rules.specs.declared.records.Kind.TheVariants.{Row, Column}
+use Rattle.job_rules.specs.declared.records.Kind.TheVariants.{Column}
 use Rattle.job_rules.specs.Records.{on, tallies}
-use Rattle.job_rules.specs.Bounds.{most_lines, most_changes}
+use Rattle.job_rules.specs.Bounds.{most_changes}
 use Rattle.job_rules.specs.Passes.{Pass, passed}
 use Rattle.jobs.proofs.Passing.{each_small, few_changes, columns_pass, state_of}
 use Rattle.jobs.proofs.job.Job.pass_over_columns.Goals as goal

@@ -1,4 +1,4 @@
-use Rattle.std.proofs.Common.{◌≡◌, ◌<◌, [], sym, refl, ap, ◌∙◌, arith, lt-ltb}
+use Rattle.std.proofs.Common.{◌<◌, [], ◌∙◌, arith, lt-ltb}
 use Rattle.job_rules.specs.Questions.{lines}
 use Rattle.jobs.proofs.Reading.{record_read}
 use Rattle.jobs.proofs.job.Job.record.Goals as goal

@@ -1,4 +1,4 @@
-use Rattle.std.proofs.Common.{◌≡◌, sym, refl, ap, ◌∙◌, subst, arith}
+use Rattle.std.proofs.Common.{refl, ◌∙◌, arith}
 use Rattle.jobs.proofs.Delivering.{redelivered}
 use Rattle.jobs.proofs.job.Job.redeliver.Goals as goal
 

@@ -1,4 +1,4 @@
-use Rattle.std.proofs.Common.{◌≡◌, ◌+◌, ◌*◌, ◌<◌, ◌≤◌, sym, refl, ap, ◌∙◌, subst, arith}
+use Rattle.std.proofs.Common.{sym, ◌∙◌, arith}
 use Rattle.jobs.specs.States.{state}
 use Rattle.jobs.proofs.Running.{going_none, going_more, going_ends, going_limit, so_far, ends_whole, ends_quiet, ends_limit, answered}
 use Rattle.jobs.proofs.job.Job.run_passes.Goals as goal

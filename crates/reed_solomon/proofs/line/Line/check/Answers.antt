@@ -1,4 +1,4 @@
-use Rattle.std.proofs.Common.{◌≡◌, ℕ, length, sym, refl, ap, ◌∙◌, subst, arith}
+use Rattle.std.proofs.Common.{◌≡◌, ℕ, length, sym, ◌∙◌, arith}
 use Rattle.reed_solomon.proofs.Apart.{word_to, word_from, no_word}
 use Rattle.reed_solomon.proofs.Differ.{all_below}
 use Rattle.reed_solomon.proofs.line.Line.check.Goals as goal

@@ -1,4 +1,4 @@
-use Rattle.std.proofs.Common.{◌≡◌, sym, ap, ◌∙◌, arith, eq-eqb, eqb-true}
+use Rattle.std.proofs.Common.{sym, ◌∙◌, arith, eq-eqb, eqb-true}
 use Rattle.codes.proofs.Lines.{all_below}
 use Rattle.small_codes.specs.Majority.{first_alike, alike_first}
 use Rattle.small_codes.proofs.repetition.RepetitionLineCode.check.Goals as goal

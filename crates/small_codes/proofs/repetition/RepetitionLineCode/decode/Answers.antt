@@ -1,4 +1,4 @@
-use Rattle.std.proofs.Common.{◌≡◌, ℕ, List, sym, refl, ap, ◌∙◌, subst, arith}
+use Rattle.std.proofs.Common.{ℕ, List, sym, refl, subst}
 use Rattle.codes.specs.Answers.{Mends}
 use Rattle.small_codes.specs.Repetition.{repetition, unlike}
 use Rattle.small_codes.specs.Majority.{mends, sticks}

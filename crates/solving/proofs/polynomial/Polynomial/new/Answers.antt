@@ -1,6 +1,4 @@
-use Rattle.std.proofs.Common.{◌≡◌, ℕ, ◌+◌, ◌-◌, ◌<◌, List, ◌++◌, length, get_or, take, sym, refl, ap, ◌∙◌, subst, arith}
-use lib.ListN.{get_or-append}
-use lib.Seq.{take-append_seam}
+use Rattle.std.proofs.Common.{◌-◌, ◌<◌, length, get_or, arith}
 use Rattle.solving.proofs.Parts.{front, front_at}
 use Rattle.solving.proofs.polynomial.Polynomial.new.Goals as goal
 
