@@ -1,9 +1,8 @@
 // The two codes of a disc's frame, as every program here puts them together.
-ghost use Rattle.std.specs.Prelude.{◌≡◌, None, MatchResult};
+ghost use Rattle.std.specs.Prelude.{◌≡◌, MatchResult};
 ghost use Rattle.fields.specs.Binary.{disc};
 ghost use Rattle.reed_solomon.specs.Lines.{code_of};
 ghost use Rattle.reed_solomon.specs.Disc.{disc_row_code, disc_column_code};
-ghost use Rattle.decoder.specs.Making.{number_of};
 
 use decoder::{ReedSolomon, Unmade, column_line, row_line};
 use fields::DiscTables;
@@ -20,10 +19,10 @@ pub struct DiscCodes {
     pub columns: DiscLine,
 }
 
-// The disc's two codes, neither of which has decoded yet. The only error is want of memory.
+// The disc's two codes, neither of which has decoded yet. The only error is want of memory, which does not come today.
 pub fn disc_codes(heap: Global) -> Result<DiscCodes, Unmade>
-    ensures rows { MatchResult result (λ x. (code_of disc x.rows.code.numbers ≡ disc_row_code) × (x.rows.count ≡ 0)) (λ why. number_of why ≡ None) }
-    ensures columns { MatchResult result (λ x. (code_of disc x.columns.code.numbers ≡ disc_column_code) × (x.columns.count ≡ 0)) (λ why. number_of why ≡ None) }
+    ensures rows { MatchResult result (λ x. (code_of disc x.rows.code.numbers ≡ disc_row_code) × (x.rows.count ≡ 0)) (λ _. ⊥) }
+    ensures columns { MatchResult result (λ x. (code_of disc x.columns.code.numbers ≡ disc_column_code) × (x.columns.count ≡ 0)) (λ _. ⊥) }
 {
     let rows = row_line::<DiscTables, BerlekampMassey>(heap)?;
     let columns = column_line::<DiscTables, BerlekampMassey>(heap)?;
