@@ -2,7 +2,7 @@
 ghost use Rattle.std.specs.Prelude.{◌≡◌, ◌≤◌, length, MatchOption};
 ghost use Rattle.codes.specs.Meaning.{Below};
 ghost use Rattle.small_codes.specs.Repetition.{repetition, unlike, Majority};
-ghost use Rattle.small_codes.specs.Majority as ProofsMajority;
+ghost use Rattle.small_codes.specs.Majority.{lawful as repetition_is_lawful};
 
 use codes::{Decoded, LineCode, Refusal};
 
@@ -63,7 +63,7 @@ impl LineCode for Repetition {
 
     ghost count = { λ x. x.count };
 
-    ghost lawful = { λ code. ProofsMajority.lawful code.length code.some code.short };
+    ghost lawful = { λ code. repetition_is_lawful code.length code.some code.short };
 
     fn length(&self) -> u8 {
         self.length

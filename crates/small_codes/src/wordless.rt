@@ -1,7 +1,7 @@
 // The code without codewords: every line is stuck.
 ghost use Rattle.std.specs.Prelude.{◌≡◌, ◌≤◌, MatchOption};
 ghost use Rattle.small_codes.specs.Wordless.{wordless};
-ghost use Rattle.std.proofs.Common.{rules, arith};
+ghost use Rattle.std.proofs.Common.{rules};
 
 use codes::{Decoded, LineCode, Refusal};
 
@@ -34,7 +34,7 @@ impl LineCode for Wordless {
 
     ghost count = { λ x. x.count };
 
-    ghost lawful = { first_of (Prim.search rules, Prim.grind (arith, Self.row.coded.inj)) };
+    ghost lawful = { Prim.search rules };
 
     fn length(&self) -> u8 {
         self.length
