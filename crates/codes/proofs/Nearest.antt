@@ -1,10 +1,8 @@
 -- At most one codeword is in reach of a line.
-use Rattle.std.proofs.Common.{◌≡◌, ℕ, ◌<◌, ◌≤◌, min, List, length, Ok, Err, Result, sym, ap, ◌∙◌, arith}
+use Rattle.std.proofs.Common.{◌≡◌, ℕ, ◌<◌, ◌≤◌, min, List, length, Ok, Err, Result, sym, ap, ◌∙◌, arith, Option, Some, None}
 use Rattle.codes.specs.Meaning.{Meaning, Lawful, Word, InReach, differ}
 use Rattle.codes.specs.Answers.{Mends, Answers}
 use Rattle.codes.specs.Recovery.{Recovers}
-use Rattle.codes.specs.declared.Decoded.{Decoded}
-use Rattle.codes.specs.declared.Decoded.TheVariants.{Mended, Stuck}
 use Rattle.codes.specs.declared.Refusal.{Refusal}
 use Rattle.codes.specs.Cautious.{cautious}
 use Rattle.codes.proofs.Lines.{differ_sym, differ_through}
@@ -25,15 +23,15 @@ beyond m law s before after k mended far near =
     omega (arith, ap (differ before) same, mended.changes)
 
 -- what every line code answers recovers each codeword that was corrupted within reach
-pub recovers : (m : Meaning) → Lawful m → (before after : List ℕ) (n n' : ℕ) (r : Result Decoded Refusal)
+pub recovers : (m : Meaning) → Lawful m → (before after : List ℕ) (n n' : ℕ) (r : Result (Option ℕ) Refusal)
     → Answers m before after n n' r → Recovers m before after r
-recovers m law before after n n' (Ok (Mended k)) a sent h =
+recovers m law before after n n' (Ok (Some k)) a sent h =
     let flip = differ_sym sent before in
     let few = h.few in
     let d = a.0 in
     let same : after ≡ sent =
     nearest m law before after sent d.word h.word h.long (omega (arith, d.changes, d.near)) (omega arith) in
-    (same, ap (λ (x : ℕ). Ok (Mended x)) (sym d.changes ∙ ap (differ before) same ∙ sym flip))
-recovers m law before after n n' (Ok Stuck) a sent h =
+    (same, ap (λ (x : ℕ). Ok (Some x)) (sym d.changes ∙ ap (differ before) same ∙ sym flip))
+recovers m law before after n n' (Ok None) a sent h =
     absurd (a.0.far (record { long = h.long; below = h.below; word = sent; is = h.word; near = omega (arith, differ_sym sent before, h.few) }))
 recovers m law before after n n' (Err why) a sent h = absurd (a.0.other h.long)

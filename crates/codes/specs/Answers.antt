@@ -1,8 +1,6 @@
 -- What the calls of a line code answer, and what they leave.
-use Rattle.std.specs.Prelude.{◌≡◌, ℕ, ◌+◌, ◌%◌, ◌^◌, ◌≤◌, Bool, true, List, length, Ok, Err, Result}
+use Rattle.std.specs.Prelude.{◌≡◌, ℕ, ◌+◌, ◌%◌, ◌^◌, ◌≤◌, Bool, true, List, length, Ok, Err, Result, Option, Some, None}
 use Rattle.codes.specs.Meaning.{Meaning, Word, Below, InReach, differ}
-use Rattle.codes.specs.declared.Decoded.{Decoded}
-use Rattle.codes.specs.declared.Decoded.TheVariants.{Mended, Stuck}
 use Rattle.codes.specs.declared.Refusal.{Refusal}
 use Rattle.codes.specs.declared.Refusal.TheVariants.{LineLength}
 
@@ -25,9 +23,9 @@ pub record Sticks (m : Meaning) (before after : List ℕ) : Type 0 where
   pub far : InReach m before → ⊥
 
 -- a decoding of a line of the code's length, by its answer
-abbrev pub Decodes : Meaning → (before after : List ℕ) → Decoded → Type 0
-Decodes m before after (Mended k) = Mends m before after k
-Decodes m before after Stuck = Sticks m before after
+abbrev pub Decodes : Meaning → (before after : List ℕ) → Option ℕ → Type 0
+Decodes m before after (Some k) = Mends m before after k
+Decodes m before after None = Sticks m before after
 
 -- a line of another length is refused
 pub record Refuses (m : Meaning) (line : List ℕ) (why : Refusal) : Type 0 where
@@ -35,7 +33,7 @@ pub record Refuses (m : Meaning) (line : List ℕ) (why : Refusal) : Type 0 wher
   pub other : length line ≡ m.size → ⊥
 
 -- decode: each decoding that is not refused adds one to the count, which is 0 again after 2^64 - 1
-abbrev pub Answers : Meaning → (before after : List ℕ) → (count count' : ℕ) → Result Decoded Refusal → Type 0
+abbrev pub Answers : Meaning → (before after : List ℕ) → (count count' : ℕ) → Result (Option ℕ) Refusal → Type 0
 Answers m before after n n' (Ok d) = Decodes m before after d × (n' ≡ (n + 1) % 2 ^ 64)
 Answers m before after n n' (Err why) = Refuses m before why × (after ≡ before) × (n' ≡ n)
 

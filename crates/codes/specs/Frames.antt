@@ -1,6 +1,7 @@
 -- Rows and columns of a frame.
-use Rattle.std.specs.Prelude.{◌≡◌, ℕ, ◌+◌, ◌*◌, ◌<◌, Bool, true, false, List, map, length, take, drop, ◌≢◌, slice_index}
+use Rattle.std.specs.Prelude.{◌≡◌, ℕ, ◌+◌, ◌*◌, ◌<◌, List, map, length, take, drop, ◌≢◌, slice_index, Ok, Err, Result}
 use Rattle.std.specs.List.{range_with_len}
+use Rattle.codes.specs.declared.columns.NoColumn.{NoColumn}
 
 -- row i is the run of c bytes that begins at place i × c
 abbrev pub row : (c : ℕ) → List ℕ → (i : ℕ) → List ℕ
@@ -22,11 +23,11 @@ pub record Column (line frame : List ℕ) (width j : ℕ) : Type 0 where
   pub within : j < width
 
 -- the line becomes column j, where there is one, and else stays
-abbrev pub Takes : (line frame : List ℕ) (width j : ℕ) (line' : List ℕ) → Bool → Type 0
-Takes line frame width j line' true = Column line frame width j × (line' ≡ column width (length line) frame j)
-Takes line frame width j line' false = (Column line frame width j → ⊥) × (line' ≡ line)
+abbrev pub Takes : (line frame : List ℕ) (width j : ℕ) (line' : List ℕ) → Result (Unit {0}) NoColumn → Type 0
+Takes line frame width j line' (Ok done) = Column line frame width j × (line' ≡ column width (length line) frame j)
+Takes line frame width j line' (Err why) = (Column line frame width j → ⊥) × (line' ≡ line)
 
 -- column j becomes the line, where there is one, and no other column changes; else the frame stays
-abbrev pub Puts : (line frame : List ℕ) (width j : ℕ) (frame' : List ℕ) → Bool → Type 0
-Puts line frame width j frame' true = Column line frame width j × Becomes (column width (length line)) width j line frame frame'
-Puts line frame width j frame' false = (Column line frame width j → ⊥) × (frame' ≡ frame)
+abbrev pub Puts : (line frame : List ℕ) (width j : ℕ) (frame' : List ℕ) → Result (Unit {0}) NoColumn → Type 0
+Puts line frame width j frame' (Ok done) = Column line frame width j × Becomes (column width (length line)) width j line frame frame'
+Puts line frame width j frame' (Err why) = (Column line frame width j → ⊥) × (frame' ≡ frame)

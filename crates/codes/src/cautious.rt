@@ -1,9 +1,10 @@
 // The cautious line: a line code that mends less than the code below could.
-ghost use Rattle.std.specs.Prelude.{◌≡◌, ◌<◌, ◌≤◌, length};
+ghost use Rattle.std.specs.Prelude.{◌≡◌, ◌<◌, ◌≤◌, Some, codes};
 ghost use Rattle.codes.specs.Cautious.{cautious, Makes, reach_number};
 ghost use Rattle.std.proofs.Common.{rules};
 
 use crate::{Decoded, LineCode, Refusal};
+use std::fmt;
 
 // A line code with the length, alphabet, codewords and count of the code below, and a smaller reach of its own.
 #[derive(Drop)]
@@ -12,20 +13,30 @@ pub struct Cautious<L> {
     reach: u8,
 }
 
-// What making a cautious line refuses: a reach beyond the reach below. The code below is handed back.
+// What making a cautious line refuses: a reach beyond the reach below. The code below is handed back. No code here has an
+// equality, so that a derived one would serve nobody.
 #[derive(Drop)]
 pub enum Refused<L> {
     Reach(L),
 }
 
-impl<L> Refused<L> {
-    // The refusal's number.
-    pub fn number(&self) -> u8
-        ensures { result ≡ reach_number self.now }
-    {
-        match self {
+// By a match: a variant that hands the code back has no discriminant to convert.
+impl<L> From<&Refused<L>> for u8 {
+    ghost from_gives = { λ why n. n ≡ reach_number why.now };
+
+    fn from(why: &Refused<L>) -> u8 {
+        match why {
             Refused::Reach(_) => 7,
         }
+    }
+}
+
+// By hand, so that its text is stated.
+impl<L> fmt::Display for Refused<L> {
+    ghost output = { λ _. Some (codes "the reach is beyond that of the code below") };
+
+    fn fmt<W: fmt::Write>(&self, f: &mut fmt::Formatter<W>) -> fmt::Result {
+        f.write_str("the reach is beyond that of the code below")
     }
 }
 
@@ -42,13 +53,6 @@ impl<L: LineCode> Cautious<L> {
             reach: reach as u8,
         })
     }
-}
-
-// Room for a line of any length.
-fn line_room() -> [u8; 255]
-    ensures { length result ≡ 255 }
-{
-    [0; 255]
 }
 
 impl<L: LineCode> LineCode for Cautious<L> {
@@ -80,14 +84,14 @@ impl<L: LineCode> LineCode for Cautious<L> {
             return Err(Refusal::LineLength);
         }
         let reach = self.reach();
-        let mut room = line_room();
+        let mut room = [0u8; 255];
         let before = &mut room[..line.len()];
         before.copy_from_slice(line);
         let answer = self.code.decode(line)?;
-        if let Decoded::Mended(places) = answer {
+        if let Some(places) = answer {
             if places > reach {
                 line.copy_from_slice(before);
-                return Ok(Decoded::Stuck);
+                return Ok(None);
             }
         }
         Ok(answer)

@@ -2,42 +2,50 @@
 
 #![tactic(auto)]
 
-ghost use Rattle.std.specs.Prelude.{◌≡◌, ℕ};
+ghost use Rattle.std.specs.Prelude.{◌≡◌, ℕ, Some, codes};
 ghost use Rattle.codes.specs.Meaning.{Meaning, Lawful};
 ghost use Rattle.codes.specs.Answers.{number, Checks, Answers};
+
+use std::error::Error;
+use std::fmt;
 
 mod cautious;
 mod columns;
 mod recovery;
 
 pub use crate::cautious::{Cautious, Refused};
-pub use crate::columns::{put_column, take_column};
+pub use crate::columns::{NoColumn, put_column, take_column};
 pub use crate::recovery::recover;
 
-// What a call refuses.
-#[derive(Clone, Copy)]
+// What a call refuses, each with its number.
+#[derive(Clone, Copy, PartialEq, Eq, Debug)]
 pub enum Refusal {
     // The line is not as long as its code.
-    LineLength,
+    LineLength = 3,
 }
 
-impl Refusal {
-    // The refusal's number.
-    pub fn number(&self) -> u8
-        ensures { result ≡ number self.now }
-    {
-        match self {
-            Refusal::LineLength => 3,
-        }
+// Each crate converts its own enum: one `impl` for all of them would be of a foreign trait for a foreign type.
+impl From<Refusal> for u8 {
+    ghost from_gives = { λ why n. n ≡ number why };
+
+    fn from(why: Refusal) -> u8 {
+        why as u8
     }
 }
 
-// What decoding a line came to: the codeword in reach, with the number of places changed, or none.
-#[derive(Clone, Copy)]
-pub enum Decoded {
-    Mended(u8),
-    Stuck,
+// By hand, so that its text is stated.
+impl fmt::Display for Refusal {
+    ghost output = { λ _. Some (codes "the line is not as long as its code") };
+
+    fn fmt<W: fmt::Write>(&self, f: &mut fmt::Formatter<W>) -> fmt::Result {
+        f.write_str("the line is not as long as its code")
+    }
 }
+
+impl Error for Refusal {}
+
+// What decoding a line came to: the number of places changed, where a codeword was in reach; none where the line is stuck.
+pub type Decoded = Option<u8>;
 
 // A line code. Its meaning never changes, and its count of decodings only by `decode`.
 // The interface makes no copy of a code and no second one.

@@ -1,11 +1,21 @@
 -- The repetition code: the majority is the codeword in reach, and two codewords differ everywhere.
-use Rattle.std.specs.Prelude.{◌≡◌, ℕ, zero, suc, ◌+◌, ◌*◌, ◌<◌, ◌≤◌, Bool, true, false, cond, List, [], ◌∷◌, length, take, replicate, ◌==◌, ◌≢◌, slice_index, slice_index_or, refl}
+use Rattle.std.specs.Prelude.{◌≡◌, ℕ, zero, suc, ◌+◌, ◌*◌, ◌<◌, ◌≤◌, Bool, true, false, cond, List, [], ◌∷◌, length, take, replicate, ◌==◌, ◌≢◌, slice_index, slice_index_or, refl, count_by, not}
 use Rattle.std.proofs.Common.{sym, ap, subst, ◌∙◌, arith, add-one, eq-eqb, eqb-true}
 use Rattle.std.proofs.Math.Decide.{ℕ_discrete}
 use Rattle.std.proofs.lemmas.List.{length-replicate}
+use Rattle.std.proofs.lemmas.List.Recursion.{is_count_by}
 use Rattle.codes.specs.Meaning.{differ, Below, Word, Lawful}
 use Rattle.codes.specs.Answers.{Mends, Sticks}
 use Rattle.small_codes.specs.Repetition.{unlike, each, alike, repetition}
+
+-- the bytes that are not x, as the library counts them
+pub unlike_counts : (x : ℕ) (line : List ℕ) → unlike x line ≡ count_by (λ y. not (y == x)) line
+unfolding unlike
+unlike_counts x line = is_count_by (unlike x) (λ y. not (y == x)) refl (λ y ys. step (y == x) (unlike x ys)) line
+  where
+    step : (b : Bool) (n : ℕ) → cond b 0 1 + n ≡ cond (not b) (1 + n) n
+    step true n = omega arith
+    step false n = refl
 
 -- one more byte counted
 pub unlike_more : (x : ℕ) (line : List ℕ) (i : ℕ) → i < length line

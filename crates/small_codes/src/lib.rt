@@ -4,8 +4,10 @@
 
 mod repetition;
 mod shown;
+mod small;
 mod wordless;
 
-pub use crate::repetition::Repetition;
+pub use crate::repetition::{AllEqual, Repetition};
 pub use crate::shown::{leave_alone, recover_repeated};
-pub use crate::wordless::Wordless;
+pub use crate::small::{Rule, Small};
+pub use crate::wordless::{NoCodewords, Wordless};

@@ -1,101 +1,56 @@
 // The repetition code: all symbols of a codeword are equal, and the majority decides.
-ghost use Rattle.std.specs.Prelude.{◌≡◌, ◌≤◌, length, MatchOption};
-ghost use Rattle.codes.specs.Meaning.{Below};
+ghost use Rattle.std.specs.Prelude.{◌≡◌, ◌≤◌, length};
 ghost use Rattle.small_codes.specs.Repetition.{repetition, unlike, Majority};
 ghost use Rattle.small_codes.specs.Majority.{lawful as repetition_is_lawful};
+ghost use Rattle.std.proofs.Common.{rules};
 
-use codes::{Decoded, LineCode, Refusal};
+use crate::small::{Rule, Small};
+use codes::Decoded;
 
-// A repetition code of 1 to 255 bytes, with its count of decodings.
-#[derive(Drop)]
-pub struct Repetition {
-    length: u8,
-    count: u64,
-    ghost some: { 1 ≤ length },
-    ghost short: { length ≤ 255 },
-}
+// A codeword is one symbol over and over; the symbol that more than half of a line's bytes are decides.
+pub struct AllEqual;
 
-impl Repetition {
-    // The repetition code of a length from 1 to 255.
-    pub fn new(length: u64) -> Option<Repetition>
-        ensures { MatchOption result (1 ≤ length → length ≤ 255 → ⊥) (λ x. (x.length ≡ length) × (x.count ≡ 0)) }
-    {
-        if length < 1 || length > 255 {
-            return None;
-        }
-        Some(Repetition {
-            length: length as u8,
-            count: 0,
-        })
-    }
-}
+// A repetition code of 1 to 255 bytes.
+pub type Repetition = Small<AllEqual>;
 
 // How many bytes of the line are not `symbol`.
 fn others(line: &[u8], symbol: u8) -> usize
     ensures value { result ≡ unlike symbol line.now }
     ensures most { result ≤ length line.now }
 {
-    let mut n: usize = 0;
-    for byte in line {
-        if *byte != symbol {
-            n += 1;
-        }
-    }
-    n
+    line.iter().filter(|byte| **byte != symbol).count()
 }
 
 // The symbol that more than half of the bytes are.
 fn majority(line: &[u8]) -> Option<u8>
-    requires { length line.now ≤ 255 }
-    ensures most { Majority line.now result }
-    ensures bytes { Below 256 line.now }
+    ensures { Majority line.now result }
 {
     for byte in line {
-        if 2 * others(line, *byte) < line.len() {
+        let others = others(line, *byte);
+        if others < line.len() - others {
             return Some(*byte);
         }
     }
     None
 }
 
-impl LineCode for Repetition {
-    ghost meaning = { λ x. repetition x.length };
+impl Rule for AllEqual {
+    ghost meaning = { repetition };
 
-    ghost count = { λ x. x.count };
+    ghost sizes = { Prim.search rules };
 
-    ghost lawful = { λ code. repetition_is_lawful code.length code.some code.short };
+    ghost reaches = { Prim.search rules };
 
-    fn length(&self) -> u8 {
-        self.length
+    ghost lawful = { repetition_is_lawful };
+
+    fn is_codeword(line: &[u8]) -> bool {
+        line.is_empty() || others(line, line[0]) == 0
     }
 
-    fn reach(&self) -> u8 {
-        (self.length - 1) / 2
-    }
-
-    fn decodings(&self) -> u64 {
-        self.count
-    }
-
-    fn check(&self, line: &[u8]) -> Result<bool, Refusal> {
-        if line.len() != self.length as usize {
-            return Err(Refusal::LineLength);
-        }
-        Ok(others(line, line[0]) == 0)
-    }
-
-    fn decode(&mut self, line: &mut [u8]) -> Result<Decoded, Refusal> {
-        if line.len() != self.length as usize {
-            return Err(Refusal::LineLength);
-        }
-        self.count = self.count.wrapping_add(1);
-        match majority(line) {
-            None => Ok(Decoded::Stuck),
-            Some(symbol) => {
-                let changed = others(line, symbol) as u8;
-                line.fill(symbol);
-                Ok(Decoded::Mended(changed))
-            }
-        }
+    fn mend(line: &mut [u8]) -> Decoded {
+        let symbol = majority(line)?;
+        let changed = u8::try_from(others(line, symbol)).ok()?;
+        line.fill(symbol);
+        Some(changed)
     }
 }

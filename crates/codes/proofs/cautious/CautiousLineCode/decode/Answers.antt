@@ -1,7 +1,5 @@
-use Rattle.std.proofs.Common.{◌≡◌, ◌<◌, min, ap, ◌∙◌, subst, arith}
+use Rattle.std.proofs.Common.{◌≡◌, ℕ, ◌<◌, min, ap, ◌∙◌, subst, arith, Option, Some}
 use Rattle.codes.specs.Answers.{Decodes, Mends}
-use Rattle.codes.specs.declared.Decoded.{Decoded}
-use Rattle.codes.specs.declared.Decoded.TheVariants.{Mended}
 use Rattle.codes.specs.Cautious.{cautious}
 use Rattle.codes.proofs.Nearest.{beyond}
 use Rattle.codes.proofs.cautious.CautiousLineCode.decode.Goals as goal
@@ -11,11 +9,11 @@ returns-then-places-reach g c =
     let m = g.L.LineCode.meaning c.args.self.now.code in
     let law = g.met.L.LineCode.lawful c.args.self.now.code in
     let s = c.args.self.now.reach in
-    let places = c.in-Mended.places in
+    let places = c.in-Some.places in
     let e = c.in_ok-answer.ensures in
-    let is : c.in_ok-answer.answer ≡ Mended places = c.in-Mended.is in
+    let is : c.in_ok-answer.answer ≡ Some places = c.in-Some.is in
     let d : Mends m c.args.line.now c.decode.new.line places =
-    subst (λ (a : Decoded). Decodes m c.args.line.now c.decode.new.line a) is e.answer.0 in
+    subst (λ (a : Option ℕ). Decodes m c.args.line.now c.decode.new.line a) is e.answer.0 in
     let far : min s m.reach < places = omega (arith, c.reach-reach.ensures, c.if-places-reach.true) in
     record {
       same = ap (λ n. cautious n s) c.decode.ensures.same;
