@@ -244,12 +244,6 @@ completed m t b c k before after r fits less els rels lr lk la same back rest = 
           subst (λ (n : ℕ). n < m.q) (sym (ap (λ a. get_or after a 0) (sym e) ∙ back (p - k) (omega arith))) (rels (length r - 1 - (p - k)) (omega arith)))
     ])
 
--- a part from the start of zeros
-pub taken_zero : (n : ℕ) (xs : List ℕ) → n ≤ length xs → Zero xs → Zero (take n xs)
-taken_zero n xs l h k lk =
-    let e = length-take-le n xs l in
-    get_or-take n xs k 0 (omega arith) ∙ h k (omega arith)
-
 -- from symbols that make the syndromes 0 to the code over the disc field
 pub codes_of : (n k b q : ℕ) (before after : List ℕ) → length before ≡ n → k < n → q ≡ 256 → Completed disc b (n - k) before after → Codes (reed_solomon_code disc n k b q) k before after
 codes_of n k b q before after long less is c =

@@ -1,34 +1,13 @@
 // A coder of lines over the disc field, by whatever means that field computes.
-ghost use Rattle.std.specs.Prelude.{◌≡◌, ℕ, ◌-◌, ◌<◌, ◌≤◌, length};
+ghost use Rattle.std.specs.Prelude.{◌≡◌};
 ghost use Rattle.fields.specs.Binary.{disc};
-ghost use Rattle.algebra.specs.Lines.{Elements};
 ghost use Rattle.reed_solomon.specs.Lines.{code_of, Fits};
 ghost use Rattle.coding.specs.Coding.{Coding};
-ghost use Rattle.coding.specs.Division.{Completed};
 
-use crate::division::{append, divide, generator, room};
+use crate::division::{divide, generator};
 use fields::{DiscField, Field};
 use reed_solomon::{CodeNumbers, Refusal};
 use std::marker::PhantomData;
-
-// Sets the last `checks` symbols of a line to those that make a codeword with the others.
-fn complete<F: Field>(line: &mut [u8], checks: usize, b: u8)
-    requires some { 1 ≤ checks }
-    requires few { checks ≤ 32 }
-    requires less { checks < length line.old }
-    requires fits { length line.old < F.Field.meaning.q }
-    requires elements { Elements F.Field.meaning line.old }
-    ensures { Completed F.Field.meaning b checks line.old line.new }
-{
-    let mut divisor_room = room();
-    let g = &mut divisor_room[..checks + 1];
-    generator::<F>(g, b);
-    let mut register_room = room();
-    let r = &mut register_room[..checks];
-    let k = line.len() - checks;
-    divide::<F>(r, g, &line[0..k]);
-    append(line, k, r);
-}
 
 // Codes lines over the disc field.
 #[derive(Drop)]
@@ -43,11 +22,8 @@ impl<F: DiscField> Coder<F> {
     pub fn new(numbers: CodeNumbers) -> Result<Coder<F>, Refusal>
         ensures { Fits disc numbers (λ x. x.numbers) result }
     {
-        if numbers.order != F::order() {
-            return Err(Refusal::CodeNumbers);
-        }
         Ok(Coder {
-            numbers,
+            numbers: numbers.fit::<F>()?,
             field: PhantomData,
         })
     }
@@ -59,8 +35,16 @@ impl<F: DiscField> Coder<F> {
         if line.len() != self.numbers.length as usize {
             return Err(codes::Refusal::LineLength);
         }
-        let checks = self.numbers.length - self.numbers.dimension;
-        complete::<F>(line, checks as usize, self.numbers.root);
+        let checks = self.numbers.checks() as usize;
+        let mut divisor = [0u8; 33];
+        let g = &mut divisor[..checks + 1];
+        generator::<F>(g, self.numbers.root);
+        let mut register = [0u8; 32];
+        let r = &mut register[..checks];
+        let k = self.numbers.dimension as usize;
+        divide::<F>(r, g, &line[..k]);
+        r.reverse();
+        line[k..].copy_from_slice(r);
         Ok(())
     }
 }

@@ -1,4 +1,3 @@
 pub mod Peasant
 pub mod Powers
-pub mod Outside
 pub mod Reduction

@@ -60,7 +60,7 @@ module _ (m p : ℕ) (t : Tests m p) where
   pub log : ℕ → ℕ
   log a = get_or (logs m p) a 0
 
-  more : 2 < 2 ^ m
+  pub more : 2 < 2 ^ m
   more = ltb→lt 2 (2 ^ m) t.more
 
   power_at : (i : ℕ) → i < 2 ^ m - 1 → get_or (exps m p) i 0 ≡ iter (shift m p) i 1

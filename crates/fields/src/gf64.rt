@@ -1,53 +1,25 @@
 // A field of 64 elements by shifting and reducing.
-ghost use Rattle.fields.specs.Binary.{sixty_four};
-ghost use Rattle.fields.specs.Fields.{gf64_laws};
+ghost use Rattle.std.proofs.Common.{lit≤};
+ghost use Rattle.fields.specs.Fields.{gf64_tests};
 
-use crate::Field;
-use crate::shifts::{shift_inverse, shift_product};
+use crate::shifts::{Modulus, Shifts};
 
-// x^6 + x + 1, and its degree.
-const POLYNOMIAL: u16 = 67;
+// x^6 + x + 1.
+pub struct Gf64Modulus;
 
-const DEGREE: u8 = 6;
+impl Modulus for Gf64Modulus {
+    const DEGREE: u8 = 6;
+
+    const POLYNOMIAL: u16 = 67;
+
+    ghost DEGREE = { 6 };
+
+    ghost POLYNOMIAL = { 67 };
+
+    ghost small = { lit≤ tt };
+
+    ghost tests = { gf64_tests };
+}
 
 // The field of 64 elements.
-pub struct Gf64;
-
-impl Field for Gf64 {
-    const ELEMENTS: u16 = 64;
-
-    const GENERATOR: u8 = 2;
-
-    ghost meaning = { sixty_four };
-
-    ghost laws = { gf64_laws };
-
-    fn order() -> u16 {
-        Self::ELEMENTS
-    }
-
-    fn alpha() -> u8 {
-        Self::GENERATOR
-    }
-
-    fn sum(a: u8, b: u8) -> u8 {
-        if a >= 64 || b >= 64 {
-            return 0;
-        }
-        a ^ b
-    }
-
-    fn product(a: u8, b: u8) -> u8 {
-        if a >= 64 || b >= 64 {
-            return 0;
-        }
-        shift_product(DEGREE, POLYNOMIAL, a, b)
-    }
-
-    fn inverse(a: u8) -> u8 {
-        if a >= 64 {
-            return 0;
-        }
-        shift_inverse(DEGREE, POLYNOMIAL, a)
-    }
-}
+pub type Gf64 = Shifts<Gf64Modulus>;

@@ -2,7 +2,7 @@
 
 #![tactic(auto)]
 
-ghost use Rattle.std.specs.Prelude.{◌≡◌, ◌<◌, ◌≤◌};
+ghost use Rattle.std.specs.Prelude.{◌≡◌, ℕ, ◌<◌, ◌≤◌};
 ghost use Rattle.fields.specs.Laws.{Meaning, FieldLaws};
 ghost use Rattle.fields.specs.Binary.{disc, Reduced};
 
@@ -11,8 +11,9 @@ mod gf64;
 mod shifts;
 mod tables;
 
-pub use crate::disc_shifts::DiscShifts;
-pub use crate::gf64::Gf64;
+pub use crate::disc_shifts::{DiscModulus, DiscShifts};
+pub use crate::gf64::{Gf64, Gf64Modulus};
+pub use crate::shifts::{Modulus, Shifts};
 pub use crate::tables::DiscTables;
 
 // A field whose elements are the numbers from 0 to q - 1 and in which a + a = 0.
@@ -24,16 +25,12 @@ pub trait Field {
     // The element whose first q - 1 powers are all the nonzero elements.
     const GENERATOR: u8;
 
+    ghost ELEMENTS: { ℕ };
+
+    ghost GENERATOR: { ℕ };
+
     // What the calls compute.
     ghost meaning: { Meaning };
-
-    // ELEMENTS, under a contract.
-    fn order() -> u16
-        ensures { result ≡ meaning.q };
-
-    // GENERATOR, under a contract.
-    fn alpha() -> u8
-        ensures { result ≡ meaning.g };
 
     fn sum(a: u8, b: u8) -> u8
         ensures value { a < meaning.q → b < meaning.q → result ≡ meaning.add a b }
@@ -49,6 +46,10 @@ pub trait Field {
         ensures value { result ≡ meaning.inv a }
         ensures none { a ≡ 0 → result ≡ 0 }
         ensures out { meaning.q ≤ a → result ≡ 0 };
+
+    ghost elements: { ELEMENTS ≡ meaning.q };
+
+    ghost generator: { GENERATOR ≡ meaning.g };
 
     ghost laws: { FieldLaws meaning };
 }

@@ -1,5 +1,5 @@
 // The disc field by a table of the powers of its generator and a table of the logarithms.
-ghost use Rattle.std.specs.Prelude.{◌≡◌, ◌<◌};
+ghost use Rattle.std.specs.Prelude.{◌≡◌, ◌<◌, refl};
 ghost use Rattle.fields.specs.Laws.{power};
 ghost use Rattle.fields.specs.Binary.{disc};
 ghost use Rattle.fields.specs.Fields.{disc_laws};
@@ -71,17 +71,17 @@ impl Field for DiscTables {
 
     const GENERATOR: u8 = 2;
 
+    ghost ELEMENTS = { 256 };
+
+    ghost GENERATOR = { 2 };
+
     ghost meaning = { disc };
 
+    ghost elements = { refl };
+
+    ghost generator = { refl };
+
     ghost laws = { disc_laws };
-
-    fn order() -> u16 {
-        Self::ELEMENTS
-    }
-
-    fn alpha() -> u8 {
-        Self::GENERATOR
-    }
 
     fn sum(a: u8, b: u8) -> u8 {
         a ^ b

@@ -7,7 +7,7 @@ use Rattle.algebra.proofs.Weights.{sums_of_error}
 use Rattle.algebra.proofs.FirstRoot.{light_from}
 use Rattle.algebra.proofs.Places.{syndrome as theirs}
 use Rattle.algebra.proofs.Elements.{el_same, el_zero}
-use Rattle.algebra.specs.Lines.{Elements, syndrome}
+use Rattle.algebra.specs.Lines.{syndrome}
 use Rattle.codes.specs.Meaning.{differ, Below, Word}
 use Rattle.reed_solomon.specs.Words.{zeros, reed_solomon_code}
 use Rattle.reed_solomon.specs.Theorems.{Distance}
@@ -53,10 +53,6 @@ module _ (m : Meaning) (n k b q : ℕ) where
   word_from w h =
       let c = chosen (eqb q m.q) (zeros (λ i. syndrome m w (b + i)) (n - k)) h.is in
       (eqb-true q m.q c.0, c.1)
-
-  -- a line with a byte that is no element is no codeword
-  pub no_word : (line : List ℕ) → (q ≡ m.q → Elements m line → ⊥) → Word (reed_solomon_code m n k b q) line → ⊥
-  no_word line h w = h (word_from line w).0 (below_at m.q line w.below)
 
 pub apart : Distance
 apart m t n k b q within v w x y near =

@@ -8,12 +8,11 @@ mod disc;
 mod limits;
 mod line;
 mod numbers;
-mod received;
 mod syndromes;
 
-pub use crate::disc::{disc_columns, disc_header, disc_rows};
+pub use crate::disc::DiscCode;
 pub use crate::limits::Refusal;
-pub use crate::line::{Line, readable};
+pub use crate::line::Line;
 pub use crate::numbers::CodeNumbers;
 pub use crate::syndromes::{locators, power};
 

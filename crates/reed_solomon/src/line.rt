@@ -1,71 +1,23 @@
-// A Reed–Solomon line over a field: checking.
-ghost use Rattle.std.specs.Prelude.{◌≡◌, ℕ, ◌+◌, ◌<◌, ◌≤◌, true, false, length, slice_index};
-ghost use Rattle.algebra.specs.Lines.{Elements, syndrome};
+// A Reed–Solomon line over a field: its syndromes, and checking.
+ghost use Rattle.std.specs.Prelude.{◌≡◌, ◌↔◌, IsTrue, true};
+ghost use Rattle.algebra.specs.Lines.{Elements};
+ghost use Rattle.codes.specs.Meaning.{Word};
 ghost use Rattle.codes.specs.Answers.{Checks};
-ghost use Rattle.reed_solomon.specs.Words.{zeros};
 ghost use Rattle.reed_solomon.specs.Lines.{code_of, Fits};
+ghost use Rattle.reed_solomon.specs.Received.{Receives};
 
 use crate::limits::Refusal;
 use crate::numbers::CodeNumbers;
-use crate::syndromes::{locators, vanish};
+use crate::syndromes::{locators, syndromes};
 use fields::Field;
 use std::marker::PhantomData;
-
-// Is every byte below q?
-fn below(line: &[u8], q: u16) -> bool
-    ensures yes { result ≡ true → (k : ℕ) → k < length line.now → slice_index line.now k < q }
-    ensures no { result ≡ false → (k : ℕ) × (k < length line.now) × (q ≤ slice_index line.now k) }
-{
-    for byte in line {
-        if u16::from(*byte) >= q {
-            return false;
-        }
-    }
-    true
-}
-
-// Is every byte an element of the field, and is the field the one that the code numbers are for?
-// A byte that is no element counts as 0 in the field, so that the syndromes alone would not tell.
-pub fn readable<F: Field>(line: &[u8], q: u16) -> bool
-    ensures yes { result ≡ true → (q ≡ F.Field.meaning.q) × Elements F.Field.meaning line.now }
-    ensures no { result ≡ false → q ≡ F.Field.meaning.q → Elements F.Field.meaning line.now → ⊥ }
-{
-    q == F::order() && below(line, q)
-}
-
-// Room for the bytes of a line.
-pub(crate) fn line_room() -> [u8; 255]
-    ensures { length result ≡ 255 }
-{
-    [0; 255]
-}
-
-// Room for syndromes.
-fn syndrome_room() -> [u8; 32]
-    ensures { length result ≡ 32 }
-{
-    [0; 32]
-}
-
-// Are all the syndromes of the line 0, `checks` of them from S_b on?
-fn vanishes<F: Field>(line: &[u8], checks: usize, b: u8) -> bool
-    requires short { length line.now ≤ 255 }
-    requires few { checks ≤ 32 }
-    ensures { result ≡ zeros (λ k. syndrome F.Field.meaning line.now (b + k)) checks }
-{
-    let mut room = line_room();
-    let table = &mut room[..line.len()];
-    locators::<F>(table);
-    let mut sums = syndrome_room();
-    let s = &mut sums[..checks];
-    vanish::<F>(line, table, b, s)
-}
 
 // A Reed–Solomon line over the field F.
 #[derive(Drop)]
 pub struct Line<F: Field> {
     pub(crate) numbers: CodeNumbers,
     field: PhantomData<F>,
+    ghost fits: { numbers.order ≡ F.Field.meaning.q },
 }
 
 impl<F: Field> Line<F> {
@@ -73,11 +25,8 @@ impl<F: Field> Line<F> {
     pub fn new(numbers: CodeNumbers) -> Result<Line<F>, Refusal>
         ensures { Fits F.Field.meaning numbers (λ x. x.numbers) result }
     {
-        if numbers.order != F::order() {
-            return Err(Refusal::CodeNumbers);
-        }
         Ok(Line {
-            numbers,
+            numbers: numbers.fit::<F>()?,
             field: PhantomData,
         })
     }
@@ -89,17 +38,43 @@ impl<F: Field> Line<F> {
         self.numbers
     }
 
-    // Is the line a codeword? Another length is refused.
-    pub fn check(&self, line: &[u8]) -> Result<bool, codes::Refusal>
-        ensures { Checks (code_of F.Field.meaning self.now.numbers) line.now result }
+    // Is every byte an element of the field? One that is none counts as 0 in it, so that the syndromes alone would not tell.
+    pub fn is_readable(&self, line: &[u8]) -> bool
+        ensures { IsTrue result ↔ Elements F.Field.meaning line.now }
+    {
+        line.iter()
+            .all(|byte| u16::from(*byte) < self.numbers.order)
+    }
+
+    // As many syndromes of a line as `sums` has room for, from S_b on. Another length is refused, and nothing written.
+    pub fn syndromes(&self, line: &[u8], sums: &mut [u8]) -> Result<(), codes::Refusal>
+        ensures { Receives F.Field.meaning self.now.numbers line.now sums.old sums.new result }
     {
         if line.len() != self.numbers.length as usize {
             return Err(codes::Refusal::LineLength);
         }
-        if !readable::<F>(line, self.numbers.order) {
-            return Ok(false);
-        }
-        let checks = self.numbers.length - self.numbers.dimension;
-        Ok(vanishes::<F>(line, checks as usize, self.numbers.root))
+        let mut room = [0u8; 255];
+        let table = &mut room[..line.len()];
+        locators::<F>(table);
+        syndromes::<F>(line, table, self.numbers.root, sums);
+        Ok(())
+    }
+
+    // Is the line a codeword? Another length is refused.
+    pub fn check(&self, line: &[u8]) -> Result<bool, codes::Refusal>
+        ensures { Checks (code_of F.Field.meaning self.now.numbers) line.now result }
+    {
+        let mut room = [0u8; 32];
+        let sums = &mut room[..self.numbers.checks() as usize];
+        self.syndromes(line, sums)?;
+        Ok(self.is_readable(line) && sums.iter().all(|sum| *sum == 0))
+    }
+
+    // Is the line a codeword? One of another length is none.
+    pub fn is_codeword(&self, line: &[u8]) -> bool
+        ensures sound { result ≡ true → Word (code_of F.Field.meaning self.now.numbers) line.now }
+        ensures complete { Word (code_of F.Field.meaning self.now.numbers) line.now → result ≡ true }
+    {
+        self.check(line).unwrap_or(false)
     }
 }

@@ -1,4 +1,5 @@
 use Rattle.std.proofs.Common.{◌≡◌, ℕ, ◌+◌, ◌-◌, ◌<◌, length, get_or, sym, ap, ◌∙◌, subst, ap₂, add-one, arith}
+use Rattle.std.proofs.lemmas.Grind.{common_steps}
 use Rattle.fields.specs.Laws.{power}
 use Rattle.algebra.specs.Sums.{sums}
 use Rattle.algebra.specs.Lines.{term, syndrome}
@@ -7,16 +8,14 @@ use Rattle.algebra.proofs.Lines.{term_made}
 use Rattle.reed_solomon.proofs.syndromes.syndromes.Goals as goal
 
 pub loop-p-init : goal.loop-p-init
-loop-p-init g c = λ k h. c.clear.ensures k (omega arith) ∙ sym (sums_none g.F.Field.meaning _)
+loop-p-init g c = λ k h.
+    let e : get_or c.fill.new.self k 0 ≡ 0 = grind (arith, common_steps) in
+    e ∙ sym (sums_none g.F.Field.meaning _)
 
-pub enter-requires : goal.enter-requires
-enter-requires g c =
+pub enter-requires-clause-elements : goal.enter-requires-clause-elements
+enter-requires-clause-elements g c =
     let m = g.F.Field.meaning in
-    let t = g.met.F.Field.laws in
-    record {
-      elements = λ k h. subst (λ (n : ℕ). n < m.q) (sym (c.loop-p.invariant k h)) (sums_below m t _ c.loop-p.p);
-      first = subst (λ (n : ℕ). n < m.q) (sym c.product-y.ensures.value) (t.mul_below _ _);
-    }
+    λ k h. subst (λ (n : ℕ). n < m.q) (sym (c.loop-p.invariant k h)) (sums_below m g.met.F.Field.laws _ c.loop-p.p)
 
 pub loop-p-preserved : goal.loop-p-preserved
 loop-p-preserved g c =

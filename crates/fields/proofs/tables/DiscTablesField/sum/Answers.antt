@@ -1,13 +1,8 @@
 use mathlib.Core.Path.{sym}
-use borrow.Author.Rules.{rules}
 use Rattle.fields.specs.Capped.{add_in}
 use Rattle.fields.specs.Computed.{elements}
 use Rattle.fields.specs.Fields.{disc_elements}
 use Rattle.fields.proofs.tables.DiscTablesField.sum.Goals as goal
 
-pub returns : goal.returns
-returns c = record {
-  value = λ ha hb. sym (add_in (elements 8 285) disc_elements c.args.a c.args.b ha hb);
-  left_out = search rules;
-  right_out = search rules;
-}
+pub returns-clause-value : goal.returns-clause-value
+returns-clause-value c ha hb = sym (add_in (elements 8 285) disc_elements c.args.a c.args.b ha hb)
