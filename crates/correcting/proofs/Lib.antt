@@ -1,1 +1,4 @@
 pub mod Fronts
+pub mod SoFar
+pub mod Telling
+pub mod Written

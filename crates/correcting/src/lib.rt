@@ -2,8 +2,10 @@
 
 #![tactic(auto)]
 
+mod correction;
 mod mending;
 mod places;
+mod received;
 mod values;
 
 pub use crate::mending::correct;

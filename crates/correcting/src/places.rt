@@ -1,10 +1,14 @@
 // Finding the wrong places: where in the line the solver's polynomial has its roots.
-ghost use Rattle.std.specs.Prelude.{◌≡◌, ℕ, ◌<◌, ◌≤◌, true, false, length, ◌==◌, ◌≢◌, slice_index};
+ghost use Rattle.std.specs.Prelude.{◌≡◌, ℕ, ◌<◌, length, ◌==◌};
 ghost use Rattle.algebra.specs.Lines.{Elements};
 ghost use Rattle.algebra.specs.Sums.{value};
-ghost use Rattle.errors.specs.Places.{root_at, count, FindsPlaces, Rises};
+ghost use Rattle.solving.specs.Sequences.{coefficients};
+ghost use Rattle.correcting.specs.Corrections.{Finds};
 
+use crate::received::Received;
+use arrayvec::ArrayVec;
 use fields::Field;
+use solving::Polynomial;
 
 // Is the polynomial 0 at the inverse of x? Horner's rule from the lowest coefficient on gives its value there times a power of x.
 fn vanishes<F: Field>(polynomial: &[u8], x: u8) -> bool
@@ -21,28 +25,26 @@ fn vanishes<F: Field>(polynomial: &[u8], x: u8) -> bool
     v == 0
 }
 
-// The places whose locator's inverse is a root, rising: are they as many as `found` has room for?
-pub(crate) fn find_places<F: Field>(polynomial: &[u8], table: &[u8], found: &mut [u8]) -> bool
-    requires some { 0 < length polynomial.now }
-    requires elements { Elements F.Field.meaning polynomial.now }
-    requires short { length table.now ≤ 255 }
-    requires nonzero { (k : ℕ) → k < length table.now → 0 < slice_index table.now k }
-    requires below { Elements F.Field.meaning table.now }
-    ensures places { result ≡ true → FindsPlaces F.Field.meaning polynomial.now table.now found.new }
-    ensures order { result ≡ true → Rises found.new (length found.new) }
-    ensures others { result ≡ false
-        → count (root_at F.Field.meaning polynomial.now table.now) (length table.now)
-        ≢ length found.old }
-{
-    let mut c = 0;
-    for (place, x) in table.iter().enumerate() {
-        if vanishes::<F>(polynomial, *x) {
-            if c >= found.len() {
-                return false;
+impl<F: Field> Received<'_, F> {
+    // The places whose locator's inverse is a root of the polynomial, rising: none where they are not as many as its degree.
+    pub(crate) fn places(&self, polynomial: &Polynomial) -> Option<ArrayVec<u8, 16>>
+        requires { Elements F.Field.meaning (coefficients polynomial.now) }
+        ensures { Finds F.Field.meaning (coefficients polynomial.now) self.now.table.now result }
+    {
+        let coefficients = polynomial.coefficients();
+        let mut places = ArrayVec::new();
+        for (place, x) in self.table.iter().enumerate() {
+            if vanishes::<F>(coefficients, *x) {
+                if places.is_full() {
+                    return None;
+                }
+                places.push(place as u8);
             }
-            found[c] = place as u8;
-            c += 1;
+        }
+        if places.len() == polynomial.degree() {
+            Some(places)
+        } else {
+            None
         }
     }
-    c == found.len()
 }

@@ -2,7 +2,11 @@
 ghost use Rattle.std.specs.Prelude.{◌≡◌, ℕ, ◌+◌, ◌<◌, ◌≤◌, length, slice_index};
 ghost use Rattle.algebra.specs.Lines.{Elements};
 ghost use Rattle.errors.specs.Places.{IsErrorValue, IsCorrected, Fixes};
+ghost use Rattle.correcting.specs.Corrections.{places_of, values_of};
 
+use crate::correction::Correction;
+use crate::received::WrongPlaces;
+use arrayvec::ArrayVec;
 use fields::Field;
 use reed_solomon::power;
 
@@ -14,81 +18,66 @@ fn peel<F: Field>(s: &mut [u8], x: u8)
     ensures sums { (k : ℕ) → k + 1 < length s.old
         → slice_index s.new k ≡ F.Field.meaning.add (slice_index s.old (k + 1)) (F.Field.meaning.mul x (slice_index s.old k)) }
 {
+    // By index: each step reads the place after the one that it writes.
     for k in 1..s.len() {
         s[k - 1] = F::sum(s[k], F::product(x, s[k - 1]));
     }
 }
 
-// The error value at the j-th of the found places: the others are peeled off one by one, and their factors, with x^b, divided out.
-fn error_value<F: Field>(s: &mut [u8], table: &[u8], found: &[u8], j: usize, b: u8) -> u8
-    requires inside { (i : ℕ) → i < length found.now → slice_index found.now i < length table.now }
-    requires within { j < length found.now }
-    requires long { length s.old ≡ length found.now }
-    requires elements { Elements F.Field.meaning s.old }
-    requires below { Elements F.Field.meaning table.now }
-    ensures element { result < F.Field.meaning.q }
-    ensures value { IsErrorValue F.Field.meaning b table.now s.old found.now j result }
-{
-    let x = table[found[j] as usize];
-    let mut over = 1;
-    for i in 0..found.len() {
-        if i != j {
-            let y = table[found[i] as usize];
-            peel::<F>(s, y);
-            over = F::product(over, F::sum(x, y));
+impl<F: Field> WrongPlaces<'_, F> {
+    // The error value at the j-th place: the others are peeled off one by one, and their factors, with x^b, divided out.
+    fn error_value(&self, sums: &mut [u8], j: usize) -> u8
+        requires within { j < length self.now.places.now }
+        requires long { length sums.old ≡ length self.now.places.now }
+        requires elements { Elements F.Field.meaning sums.old }
+        ensures element { result < F.Field.meaning.q }
+        ensures value { IsErrorValue F.Field.meaning self.now.received.now.code.now.numbers.root self.now.received.now.table.now sums.old
+            self.now.places.now j result }
+    {
+        let table = self.received.table;
+        let x = table[self.places[j] as usize];
+        let mut over = 1;
+        for (i, place) in self.places.iter().enumerate() {
+            if i != j {
+                let y = table[*place as usize];
+                peel::<F>(sums, y);
+                over = F::product(over, F::sum(x, y));
+            }
         }
+        let b = self.received.code.numbers().root;
+        F::product(sums[0], F::inverse(F::product(over, power::<F>(x, b))))
     }
-    F::product(s[0], F::inverse(F::product(over, power::<F>(x, b))))
-}
 
-// Room for the power sums of one value.
-fn sum_room() -> [u8; 32]
-    ensures { length result ≡ 32 }
-{
-    [0; 32]
-}
+    // The corrected byte at the j-th place: as many syndromes are used as there are places.
+    fn corrected(&self, j: usize) -> u8
+        requires { j < length self.now.places.now }
+        ensures { IsCorrected F.Field.meaning self.now.received.now.code.now.numbers.root self.now.received.now.line.now self.now.received.now.table.now
+            self.now.received.now.syndromes.now.terms.items self.now.places.now j result }
+    {
+        let n = self.places.len();
+        let mut sums = [0; 32];
+        let sums = &mut sums[..n];
+        sums.copy_from_slice(&self.received.syndromes.terms()[..n]);
+        F::sum(
+            self.received.line[self.places[j] as usize],
+            self.error_value(sums, j),
+        )
+    }
 
-// The corrected byte at the j-th of the found places: as many syndromes are used as places were found.
-fn corrected<F: Field>(line: &[u8], table: &[u8], b: u8, s: &[u8], found: &[u8], j: usize) -> u8
-    requires inside { (i : ℕ) → i < length found.now → slice_index found.now i < length table.now }
-    requires within { j < length found.now }
-    requires long { length found.now ≤ length s.now }
-    requires few { length s.now ≤ 32 }
-    requires same { length table.now ≡ length line.now }
-    requires symbols { Elements F.Field.meaning line.now }
-    requires elements { Elements F.Field.meaning s.now }
-    requires below { Elements F.Field.meaning table.now }
-    ensures { IsCorrected F.Field.meaning b line.now table.now s.now found.now j result }
-{
-    let mut room = sum_room();
-    let sums = &mut room[0..found.len()];
-    sums.copy_from_slice(&s[0..found.len()]);
-    F::sum(
-        line[found[j] as usize],
-        error_value::<F>(sums, table, found, j, b),
-    )
-}
-
-// The corrected bytes at all the found places.
-pub(crate) fn corrections<F: Field>(
-    line: &[u8],
-    table: &[u8],
-    b: u8,
-    s: &[u8],
-    found: &[u8],
-    fixed: &mut [u8],
-)
-    requires inside { (i : ℕ) → i < length found.now → slice_index found.now i < length table.now }
-    requires room { length fixed.old ≡ length found.now }
-    requires long { length found.now ≤ length s.now }
-    requires few { length s.now ≤ 32 }
-    requires same { length table.now ≡ length line.now }
-    requires symbols { Elements F.Field.meaning line.now }
-    requires elements { Elements F.Field.meaning s.now }
-    requires below { Elements F.Field.meaning table.now }
-    ensures { Fixes F.Field.meaning b line.now table.now s.now found.now fixed.new }
-{
-    for j in 0..found.len() {
-        fixed[j] = corrected::<F>(line, table, b, s, found, j);
+    // The corrected bytes at all the places.
+    pub(crate) fn corrections(&self) -> ArrayVec<Correction, 16>
+        requires { length self.now.places.now ≤ 16 }
+        ensures places { places_of result.items ≡ self.now.places.now }
+        ensures values { Fixes F.Field.meaning self.now.received.now.code.now.numbers.root self.now.received.now.line.now self.now.received.now.table.now
+            self.now.received.now.syndromes.now.terms.items self.now.places.now (values_of result.items) }
+    {
+        let mut corrections = ArrayVec::new();
+        for (j, place) in self.places.iter().enumerate() {
+            corrections.push(Correction {
+                place: *place,
+                value: self.corrected(j),
+            });
+        }
+        corrections
     }
 }

@@ -1,5 +1,5 @@
 -- What making a Reed–Solomon line answers.
-use Rattle.std.specs.Prelude.{◌≡◌, ℕ, Some, None, Ok, Err, Option, Result, ◌≢◌}
+use Rattle.std.specs.Prelude.{◌≡◌, ℕ, Some, None, Ok, Err, Option, Result, ◌≢◌, List, codes}
 use Rattle.fields.specs.Laws.{Meaning}
 use Rattle.reed_solomon.specs.declared.numbers.CodeNumbers.{CodeNumbers}
 use Rattle.decoder.specs.declared.line.Unmade.{Unmade}
@@ -9,6 +9,11 @@ use Rattle.decoder.specs.declared.line.Unmade.TheVariants.{CodeNumbers as OtherF
 abbrev pub number_of : Unmade → Option ℕ
 number_of (OtherField c) = Some 6
 number_of (Memory c) = None
+
+-- what they print
+abbrev pub sentence : Unmade → List ℕ
+sentence (OtherField c) = codes "the code numbers are for another field"
+sentence (Memory c) = codes "there is no memory for the line's tables"
 
 -- a line is made exactly of numbers for its field, and has not decoded yet; else the numbers are handed back.
 -- No table is allocated today, so memory is never wanting

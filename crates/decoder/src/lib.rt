@@ -5,5 +5,5 @@
 mod disc;
 mod line;
 
-pub use crate::disc::{column_line, disc_codes_recover, header_line, row_line};
+pub use crate::disc::{disc_codes_recover, disc_line};
 pub use crate::line::{ReedSolomon, Unmade};

@@ -1,8 +1,8 @@
 // The Reed–Solomon line code, over any field and with any solver.
-ghost use Rattle.std.specs.Prelude.{◌≡◌};
+ghost use Rattle.std.specs.Prelude.{◌≡◌, Some};
 ghost use Rattle.reed_solomon.specs.Lines.{code_of};
-ghost use Rattle.decoder.specs.Making.{Makes, number_of};
-ghost use Rattle.decoder.specs.Lawful;
+ghost use Rattle.decoder.specs.Making.{Makes, number_of, sentence};
+ghost use Rattle.decoder.specs.Lawful.{line_is_lawful};
 
 use codes::{Decoded, LineCode, Refusal};
 use correcting::correct;
@@ -10,6 +10,8 @@ use fields::Field;
 use reed_solomon::{CodeNumbers, Line};
 use solving::Solver;
 use std::alloc::Global;
+use std::error::Error;
+use std::fmt;
 use std::marker::PhantomData;
 
 // A line code over the field F, whose wrong places the solver S finds, with its count of decodings.
@@ -20,8 +22,8 @@ pub struct ReedSolomon<F: Field, S: Solver<F>> {
     solver: PhantomData<S>,
 }
 
-// Why a line was not made. The code numbers are handed back.
-#[derive(Clone, Copy)]
+// Why a line was not made. The code numbers are handed back. An enum of its own: both cases are errors.
+#[derive(Clone, Copy, PartialEq, Eq, Debug)]
 pub enum Unmade {
     // The numbers are for a field with another number of elements.
     CodeNumbers(CodeNumbers),
@@ -29,31 +31,43 @@ pub enum Unmade {
     Memory(CodeNumbers),
 }
 
-impl Unmade {
-    // The refusal's number; want of memory has none.
-    pub fn number(&self) -> Option<u8>
-        ensures { result ≡ number_of self.now }
-    {
-        match self {
-            Unmade::CodeNumbers(_) => Some(6),
+// The refusal's number; want of memory has none.
+impl From<&Unmade> for Option<u8> {
+    ghost from_gives = { λ why n. n ≡ number_of why.now };
+
+    fn from(why: &Unmade) -> Option<u8> {
+        match why {
+            Unmade::CodeNumbers(_) => Some(u8::from(reed_solomon::Refusal::CodeNumbers)),
             Unmade::Memory(_) => None,
         }
     }
 }
+
+// By hand, so that its text is stated.
+impl fmt::Display for Unmade {
+    ghost output = { λ why. Some (sentence why) };
+
+    fn fmt<W: fmt::Write>(&self, f: &mut fmt::Formatter<W>) -> fmt::Result {
+        f.write_str(match self {
+            Unmade::CodeNumbers(_) => "the code numbers are for another field",
+            Unmade::Memory(_) => "there is no memory for the line's tables",
+        })
+    }
+}
+
+impl Error for Unmade {}
 
 impl<F: Field, S: Solver<F>> ReedSolomon<F, S> {
     // A line that has not decoded yet. The tables that it may come to hold will be allocated here: today it has none.
     pub fn new(_heap: Global, numbers: CodeNumbers) -> Result<ReedSolomon<F, S>, Unmade>
         ensures { Makes F.Field.meaning numbers (λ x. x.code.numbers) (λ x. x.count) result }
     {
-        match Line::<F>::new(numbers) {
-            Ok(code) => Ok(ReedSolomon {
-                code,
-                count: 0,
-                solver: PhantomData,
-            }),
-            Err(_) => Err(Unmade::CodeNumbers(numbers)),
-        }
+        let code = Line::<F>::new(numbers).map_err(|_| Unmade::CodeNumbers(numbers))?;
+        Ok(ReedSolomon {
+            code,
+            count: 0,
+            solver: PhantomData,
+        })
     }
 }
 
@@ -62,18 +76,14 @@ impl<F: Field, S: Solver<F>> LineCode for ReedSolomon<F, S> {
 
     ghost count = { λ x. x.count };
 
-    ghost lawful = { λ x.
-        let n = x.code.numbers in
-        Lawful.lawful F.Field.meaning F.Field.laws n.length n.dimension n.root n.order
-        (record { some = n.some; less = n.less; short = n.short; fits = n.fits; checks = n.checks; first = n.first; two = n.two; bytes = n.bytes }) };
+    ghost lawful = { λ x. line_is_lawful F.Field.meaning F.Field.laws x.code.numbers };
 
     fn length(&self) -> u8 {
         self.code.numbers().length
     }
 
     fn reach(&self) -> u8 {
-        let numbers = self.code.numbers();
-        (numbers.length - numbers.dimension) / 2
+        self.code.numbers().checks() / 2
     }
 
     fn decodings(&self) -> u64 {

@@ -1,5 +1,6 @@
 -- Lists of the numbers below n that have a property.
-use Rattle.std.proofs.Common.{◌≡◌, ℕ, zero, suc, ◌+◌, ◌-◌, ◌<◌, ◌≤◌, Bool, true, false, cond, List, length, get_or, set, sym, refl, ap, ◌∙◌, ap₂, arith, get_or-set_other, get_or-set_same}
+use Rattle.std.proofs.Common.{◌≡◌, ℕ, zero, suc, ◌+◌, ◌-◌, ◌<◌, ◌≤◌, Bool, true, false, cond, List, [], ◌∷◌, ◌++◌, length, get_or, sym, refl, ap, ◌∙◌, ap₂, arith}
+use Rattle.std.proofs.lemmas.List.{get_or_append_left}
 use mathlib.Core.Path.{transport}
 use native.Mathlib.Decide.{ℕ_discrete}
 use Rattle.algebra.proofs.Field.{Field}
@@ -13,6 +14,13 @@ true_false b p q = let z : ◌≡◌ {A = ℕ} 0 1 = cc in omega arith
 not_true : (b : Bool) → (b ≡ true → ⊥) → b ≡ false
 not_true true h = absurd (h refl)
 not_true false h = refl
+
+pushed_last : (xs : List ℕ) (n : ℕ) → get_or (xs ++ (n ∷ [])) (length xs) 0 ≡ n
+pushed_last [] n = refl
+pushed_last (x ∷ xs) n = pushed_last xs n
+
+pushed_old : (xs : List ℕ) (n i : ℕ) → i < length xs → get_or (xs ++ (n ∷ [])) i 0 ≡ get_or xs i 0
+pushed_old xs n i l = get_or_append_left xs (n ∷ []) 0 i l
 
 pub lists_none : (f : ℕ → Bool) (xs : List ℕ) → Lists f 0 xs 0
 lists_none f xs = record {
@@ -30,37 +38,31 @@ lists_skip f n xs c s z = record {
   all = λ k l h. elim (ℕ_discrete k n) [ yes e ↦ absurd (true_false (f n) (ap f (sym e) ∙ h) z) | no ne ↦ s.all k (omega arith) h ];
 }
 
-pub lists_take : (f : ℕ → Bool) (n : ℕ) (xs : List ℕ) (c : ℕ) → Lists f n xs c → f n ≡ true → c < length xs → Lists f (suc n) (set xs c n) (suc c)
-lists_take f n xs c s h l = record {
-  inside = λ i li. elim (ℕ_discrete i c) [
-    | yes e ↦ (let q = ap (λ a. get_or (set xs c n) a 0) e ∙ last in omega arith)
-    | no ne ↦ (let q = old i ne in let r = s.inside i (omega arith) in omega arith)
+pub lists_push : (f : ℕ → Bool) (n : ℕ) (xs : List ℕ) → Lists f n xs (length xs) → f n ≡ true → Lists f (suc n) (xs ++ (n ∷ [])) (suc (length xs))
+lists_push f n xs s h = record {
+  inside = λ i li. elim (ℕ_discrete i (length xs)) [
+    | yes e ↦ (let q = ap (λ a. get_or (xs ++ (n ∷ [])) a 0) e ∙ pushed_last xs n in omega arith)
+    | no ne ↦ (let q = pushed_old xs n i (omega arith) in let r = s.inside i (omega arith) in omega arith)
   ];
-  holds = λ i li. elim (ℕ_discrete i c) [
-    | yes e ↦ ap f (ap (λ a. get_or (set xs c n) a 0) e ∙ last) ∙ h
-    | no ne ↦ ap f (old i ne) ∙ s.holds i (omega arith)
+  holds = λ i li. elim (ℕ_discrete i (length xs)) [
+    | yes e ↦ ap f (ap (λ a. get_or (xs ++ (n ∷ [])) a 0) e ∙ pushed_last xs n) ∙ h
+    | no ne ↦ ap f (pushed_old xs n i (omega arith)) ∙ s.holds i (omega arith)
   ];
-  once = λ i j li lj q. elim (ℕ_discrete i c) [
-    | yes e ↦ elim (ℕ_discrete j c) [
+  once = λ i j li lj q. elim (ℕ_discrete i (length xs)) [
+    | yes e ↦ elim (ℕ_discrete j (length xs)) [
       | yes e' ↦ e ∙ sym e'
-      | no ne' ↦ absurd (let u = ap (λ a. get_or (set xs c n) a 0) e ∙ last in let v = old j ne' in let r = s.inside j (omega arith) in omega arith)
+      | no ne' ↦ absurd (let u = ap (λ a. get_or (xs ++ (n ∷ [])) a 0) e ∙ pushed_last xs n in let v = pushed_old xs n j (omega arith) in let r = s.inside j (omega arith) in omega arith)
     ]
-    | no ne ↦ elim (ℕ_discrete j c) [
-      | yes e' ↦ absurd (let u = ap (λ a. get_or (set xs c n) a 0) e' ∙ last in let v = old i ne in let r = s.inside i (omega arith) in omega arith)
-      | no ne' ↦ s.once i j (omega arith) (omega arith) (sym (old i ne) ∙ q ∙ old j ne')
+    | no ne ↦ elim (ℕ_discrete j (length xs)) [
+      | yes e' ↦ absurd (let u = ap (λ a. get_or (xs ++ (n ∷ [])) a 0) e' ∙ pushed_last xs n in let v = pushed_old xs n i (omega arith) in let r = s.inside i (omega arith) in omega arith)
+      | no ne' ↦ s.once i j (omega arith) (omega arith) (sym (pushed_old xs n i (omega arith)) ∙ q ∙ pushed_old xs n j (omega arith))
     ]
   ];
   all = λ k lk hk. elim (ℕ_discrete k n) [
-    | yes e ↦ (c, omega arith, last ∙ sym e)
-    | no ne ↦ (let o = s.all k (omega arith) hk in (o.0, omega (arith, o.1), old o.0 (λ e. omega (arith, o.1)) ∙ o.2))
+    | yes e ↦ (length xs, omega arith, pushed_last xs n ∙ sym e)
+    | no ne ↦ (let o = s.all k (omega arith) hk in (o.0, omega (arith, o.1), pushed_old xs n o.0 o.1 ∙ o.2))
   ];
 }
-  where
-    last : get_or (set xs c n) c 0 ≡ n
-    last = get_or-set_same xs c n 0 l
-
-    old : (i : ℕ) → ¬ (i ≡ c) → get_or (set xs c n) i 0 ≡ get_or xs i 0
-    old i ne = get_or-set_other xs c i n 0 ne
 
 pub count_none : (f : ℕ → Bool) → count f 0 ≡ 0
 unfolding count
@@ -88,9 +90,9 @@ count_mono f n (suc k) =
     (λ h. let s = count_take f (n + k) h in omega arith)
     (λ h. let s = count_skip f (n + k) h in omega arith)
 
--- one too many
-pub count_past : (f : ℕ → Bool) (n k c : ℕ) → count f k ≡ c → f k ≡ true → k < n → count f n ≡ c → ⊥
-count_past f n k c e h l q =
+-- one more
+pub count_past : (f : ℕ → Bool) (n k : ℕ) → f k ≡ true → k < n → count f k < count f n
+count_past f n k h l =
     let s = count_take f k h in
     let d : suc k + (n - suc k) ≡ n = omega arith in
     let r = count_mono f (suc k) (n - suc k) in
@@ -103,13 +105,12 @@ moved f e g h = transport (λ i. Lists f (e i) (g i) (h i))
 pub rises_none : (xs : List ℕ) → Rises xs 0
 rises_none xs i j l l' = absurd (omega arith)
 
-pub rises_take : (f : ℕ → Bool) (n : ℕ) (xs : List ℕ) (c : ℕ) → Lists f n xs c → Rises xs c → c < length xs → Rises (set xs c n) (suc c)
-rises_take f n xs c s r l i j lij lj =
-    let last = get_or-set_same xs c n 0 l in
-    let qi = get_or-set_other xs c i n 0 (λ e. omega arith) in
-    elim (ℕ_discrete j c) [
-      | yes e ↦ (let q = ap (λ a. get_or (set xs c n) a 0) e ∙ last in let h = s.inside i (omega arith) in omega arith)
-      | no ne ↦ (let q = get_or-set_other xs c j n 0 ne in let h = r i j lij (omega arith) in omega arith)
+pub rises_push : (f : ℕ → Bool) (n : ℕ) (xs : List ℕ) → Lists f n xs (length xs) → Rises xs (length xs) → Rises (xs ++ (n ∷ [])) (suc (length xs))
+rises_push f n xs s r i j lij lj =
+    let qi = pushed_old xs n i (omega arith) in
+    elim (ℕ_discrete j (length xs)) [
+      | yes e ↦ (let q = ap (λ a. get_or (xs ++ (n ∷ [])) a 0) e ∙ pushed_last xs n in let h = s.inside i (omega arith) in omega arith)
+      | no ne ↦ (let q = pushed_old xs n j (omega arith) in let h = r i j lij (omega arith) in omega arith)
     ]
 
 module _ {F : Type 0} (K : Field F) where

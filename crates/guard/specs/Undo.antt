@@ -1,11 +1,13 @@
 -- Undoing changes of a line from the notes taken of them.
-use Rattle.std.specs.Prelude.{List, ℕ, zero, suc, ◌<◌, ◌≤◌, get_or, set}
+use Rattle.std.specs.Prelude.{List, [], ◌∷◌, ℕ, ◌<◌, ◌≤◌, length, set}
+use Rattle.std.specs.List.{All}
+use Rattle.guard.specs.declared.change.Change.{Change}
 
--- the line with the last n noted bytes put back, the newest first
-abbrev pub undo : List ℕ → List ℕ → ℕ → List ℕ → List ℕ
-undo places old zero line = line
-undo places old (suc n) line = undo places old n (set line (get_or places n 0) (get_or old n 0))
+-- the line with the noted bytes put back, the newest first
+abbrev pub undo : List Change → List ℕ → List ℕ
+undo [] line = line
+undo (x ∷ xs) line = set (undo xs line) x.place x.old
 
 -- at most 32 notes, each of a place of a line of len bytes
-abbrev pub Noted : List ℕ → ℕ → ℕ → Type 0
-Noted places n len = (n ≤ 32) × ((k : ℕ) → k < n → get_or places k 0 < len)
+abbrev pub Noted : List Change → ℕ → Type 0
+Noted xs len = (length xs ≤ 32) × All (λ x. x.place < len) xs

@@ -1,8 +1,11 @@
 // Taking a line under guard, and changing its bytes.
 ghost use Rattle.std.specs.Prelude.{◌≡◌, true, false, ◌+◌, ◌<◌, length};
-ghost use Rattle.guard.specs.Guarded.{bytes, restored, Changed, Unchanged};
+ghost use Rattle.arrayvec.specs.ArrayVec.{array_vec_len};
+ghost use Rattle.guard.specs.Guarded.{bytes, restored, count, Sets};
 
-use crate::Guard;
+use crate::change::Change;
+use crate::{Guard, SetError};
+use arrayvec::ArrayVec;
 
 impl<'a> Guard<'a> {
     // A guard over a line of which nothing has changed yet.
@@ -10,36 +13,32 @@ impl<'a> Guard<'a> {
         ensures lender { result.line.ghost_name ≡ line.entry.ghost_name }
         ensures line { bytes result ≡ line.old }
         ensures restores { restored result ≡ line.old }
-        ensures count { result.count ≡ 0 }
+        ensures count { count result ≡ 0 }
         ensures passed { result.passed ≡ false }
     {
         Guard {
             line,
-            places: [0; 32],
-            old: [0; 32],
-            count: 0,
+            changes: ArrayVec::new(),
             passed: false,
         }
     }
 
-    // Changes the byte at a place, and notes its old value: false, and nothing changes, where the line has no such place
-    // or 32 changes are noted already. A change has to pass the closing check again.
-    pub fn set(&mut self, place: u8, value: u8) -> bool
+    // Changes the byte at a place, and notes its old value. Where the line has no such place, or 32 changes are noted
+    // already, nothing changes. A change has to pass the closing check again.
+    pub fn set(&mut self, place: u8, value: u8) -> Result<(), SetError>
         ensures lender { self.exit.now.line.ghost_name ≡ self.entry.now.line.ghost_name }
-        ensures changed { result ≡ true → Changed place value self.entry.now self.exit.now }
-        ensures refused { result ≡ false → Unchanged self.entry.now self.exit.now }
-        ensures when { self.entry.now.count < 32 → place < length (bytes self.entry.now) → result ≡ true }
-        ensures only { result ≡ true → (self.entry.now.count < 32) × (place < length (bytes self.entry.now)) }
+        ensures sets { Sets place value self.entry.now self.exit.now result }
         ensures restores { restored self.exit.now ≡ restored self.entry.now }
     {
-        if self.count >= 32 || place as usize >= self.line.len() {
-            return false;
+        if place as usize >= self.line.len() {
+            return Err(SetError::Place);
         }
+        let old = self.line[place as usize];
+        self.changes
+            .try_push(Change { place, old })
+            .map_err(|_| SetError::Room)?;
         self.passed = false;
-        self.places[self.count] = place;
-        self.old[self.count] = self.line[place as usize];
-        self.count += 1;
         self.line[place as usize] = value;
-        true
+        Ok(())
     }
 }

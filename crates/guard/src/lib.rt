@@ -5,35 +5,37 @@
 ghost use Rattle.std.specs.Prelude.{◌≡◌, true, false, length};
 ghost use Rattle.guard.specs.Undo.{undo, Noted};
 
+mod change;
 mod changing;
 mod closing;
+mod refusing;
 
-// The line, the places changed and their old values in the order of the changes, and whether the closing check passed after the last.
+use crate::change::Change;
+pub use crate::refusing::SetError;
+use arrayvec::ArrayVec;
+
+// The line, its changes in their order, and whether the closing check passed after the last.
 pub struct Guard<'a> {
     line: &'a mut [u8],
-    places: [u8; 32],
-    old: [u8; 32],
-    count: usize,
+    changes: ArrayVec<Change, 32>,
     passed: bool,
-    ghost noted: { Noted places count (length line.now) },
+    ghost noted: { Noted changes.items (length line.now) },
 }
 
 impl Drop for Guard<'_> {
     fn drop(self)
         ensures kept { self.entry.passed ≡ true → self.exit.0.now ≡ self.entry.line.now }
         ensures restored { self.entry.passed ≡ false
-            → self.exit.0.now ≡ undo self.entry.places self.entry.old self.entry.count self.entry.line.now }
+            → self.exit.0.now ≡ undo self.entry.changes.items self.entry.line.now }
     {
         let Guard {
             line,
-            places,
-            old,
-            count,
+            mut changes,
             passed,
         } = self;
         if !passed {
-            for i in (0..count).rev() {
-                line[places[i] as usize] = old[i];
+            while let Some(change) = changes.pop() {
+                line[change.place as usize] = change.old;
             }
         }
     }

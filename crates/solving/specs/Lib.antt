@@ -1,3 +1,4 @@
+pub mod Recurrences
 pub mod Sequences
 pub mod Solving
 pub mod Steps

@@ -3,7 +3,7 @@ use Rattle.std.specs.Prelude.{◌≡◌, ℕ, suc, ◌+◌, ◌<◌, ◌≤◌, 
 use Rattle.fields.specs.Laws.{Meaning, power}
 use Rattle.algebra.specs.Lines.{Elements}
 use Rattle.algebra.specs.Sums.{sums, value}
-use Rattle.solving.specs.Sequences.{coefficients}
+use Rattle.solving.specs.Sequences.{coefficients, degree}
 use Rattle.solving.specs.declared.polynomial.Polynomial.{Polynomial}
 
 -- Y 0 (X 0)^k + .. + Y (w - 1) (X (w - 1))^k
@@ -36,7 +36,7 @@ Solves m s None = (w : ℕ) (X Y : ℕ → ℕ) → Explains m s w X Y → w + w
 -- a polynomial that a solver may choose: of elements, of a degree that is at most half the number of syndromes
 pub record Choosable (m : Meaning) (s : List ℕ) (p : Polynomial) : Type 0 where
   pub elements : Elements m (coefficients p)
-  pub half : p.degree + p.degree ≤ length s
+  pub half : degree p + degree p ≤ length s
 
 -- what holds of every answer, and is all that holds on a sequence that nothing so short explains: there the solver has its
 -- free choice between nothing and any choosable polynomial

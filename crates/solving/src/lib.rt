@@ -4,6 +4,7 @@
 
 mod massey;
 mod polynomial;
+mod recurrence;
 mod sequence;
 mod solver;
 

@@ -1,20 +1,30 @@
 // A polynomial as a solver answers it: of degree at most 16, its leading coefficient not 0.
-ghost use Rattle.std.specs.Prelude.{◌≡◌, ◌+◌, ◌-◌, ◌<◌, ◌≤◌, length, take, MatchOption, slice_index};
+ghost use Rattle.std.specs.Prelude.{⊤, ◌≡◌, ◌-◌, ◌<◌, ◌≤◌, length, MatchOption, slice_index};
+ghost use Rattle.arrayvec.specs.ArrayVec.{array_vec_len};
 
-// The first `degree + 1` of the coefficients, the lowest first.
-#[derive(Clone, Copy)]
+use arrayvec::ArrayVec;
+use std::alloc::AllocError;
+
+// The coefficients, the lowest first.
+#[derive(Drop)]
 pub struct Polynomial {
-    coefficients: [u8; 17],
-    degree: usize,
-    ghost few: { degree ≤ 16 },
-    ghost leading: { 0 < slice_index coefficients degree },
+    coefficients: ArrayVec<u8, 17>,
+    ghost some: { 0 < array_vec_len coefficients },
+    ghost few: { array_vec_len coefficients ≤ 17 },
+    ghost leading: { 0 < slice_index coefficients.items (array_vec_len coefficients - 1) },
 }
 
-// Room for the coefficients.
-fn coefficient_room() -> [u8; 17]
-    ensures { length result ≡ 17 }
-{
-    [0; 17]
+// By hand: a type with ghost fields has no derived `Clone`.
+impl Clone for Polynomial {
+    ghost is_clone = { λ p q. q.coefficients.items ≡ p.coefficients.items };
+
+    ghost is_infallible = { λ _. ⊤ };
+
+    fn clone(&self) -> Result<Polynomial, AllocError> {
+        Ok(Polynomial {
+            coefficients: self.coefficients.clone()?,
+        })
+    }
 }
 
 impl Polynomial {
@@ -23,35 +33,27 @@ impl Polynomial {
         ensures { MatchOption result
             (1 ≤ length coefficients.now → length coefficients.now ≤ 17
             → 0 < slice_index coefficients.now (length coefficients.now - 1) → ⊥)
-            (λ x. (take (x.degree + 1) x.coefficients ≡ coefficients.now) × (x.degree + 1 ≡ length coefficients.now)) }
+            (λ x. x.coefficients.items ≡ coefficients.now) }
     {
-        let count = coefficients.len();
-        if count < 1 || count > 17 {
+        if *coefficients.last()? == 0 {
             return None;
         }
-        if coefficients[count - 1] == 0 {
-            return None;
-        }
-        let mut kept = coefficient_room();
-        kept[0..count].copy_from_slice(coefficients);
         Some(Polynomial {
-            coefficients: kept,
-            degree: count - 1,
+            coefficients: ArrayVec::try_from(coefficients).ok()?,
         })
     }
 
     // The highest power with a coefficient that is not 0.
     pub fn degree(&self) -> usize
-        ensures { result ≡ self.now.degree }
+        ensures { result ≡ array_vec_len self.now.coefficients - 1 }
     {
-        self.degree
+        self.coefficients.len() - 1
     }
 
     // The coefficients, the lowest first: one more than the degree.
     pub fn coefficients(&self) -> &[u8]
-        ensures value { result.now ≡ take (self.now.degree + 1) self.now.coefficients }
-        ensures count { length result.now ≡ self.now.degree + 1 }
+        ensures { result.now ≡ self.now.coefficients.items }
     {
-        &self.coefficients[0..self.degree + 1]
+        self.coefficients.as_slice()
     }
 }

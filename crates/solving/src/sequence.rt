@@ -1,31 +1,30 @@
 // A sequence of at most 32 syndromes, which is all that a solver is given.
-ghost use Rattle.std.specs.Prelude.{◌≡◌, ◌≤◌, min, length, take};
+ghost use Rattle.std.specs.Prelude.{◌≡◌, ◌≤◌, length, take};
 
-// The first `count` of the terms.
-#[derive(Clone, Copy)]
+use arrayvec::ArrayVec;
+
+// The syndromes, in their order.
+#[derive(Clone, Drop)]
 pub struct Syndromes {
-    terms: [u8; 32],
-    count: usize,
-    ghost few: { count ≤ 32 },
+    terms: ArrayVec<u8, 32>,
 }
 
 impl Syndromes {
-    // The first `count` of the terms: all 32 where `count` is larger.
-    pub fn new(terms: [u8; 32], count: usize) -> Syndromes
-        ensures terms { result.terms ≡ terms }
-        ensures count { result.count ≡ min count 32 }
+    // The first 32 of the terms: all of them, where they are no more.
+    pub fn new(terms: &[u8]) -> Syndromes
+        ensures { result.terms.items ≡ take 32 terms.now }
     {
-        Syndromes {
-            terms,
-            count: count.min(32),
-        }
+        let count = terms.len().min(32);
+        let mut kept = ArrayVec::new();
+        let _ = kept.try_extend_from_slice(&terms[..count]);
+        Syndromes { terms: kept }
     }
 
     // The terms, in their order.
     pub fn terms(&self) -> &[u8]
-        ensures value { result.now ≡ take self.now.count self.now.terms }
+        ensures value { result.now ≡ self.now.terms.items }
         ensures few { length result.now ≤ 32 }
     {
-        &self.terms[0..self.count]
+        self.terms.as_slice()
     }
 }

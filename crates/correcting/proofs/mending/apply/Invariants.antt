@@ -1,11 +1,12 @@
 use Rattle.std.proofs.Common.{◌≡◌}
-use Rattle.guard.specs.Guarded.{bytes, restored}
+use Rattle.guard.specs.Guarded.{bytes, restored, count}
 use Rattle.errors.specs.Places.{patched}
+use Rattle.correcting.specs.Corrections.{places_of, values_of}
 use Rattle.correcting.proofs.mending.apply.Given as goal
 
-abbrev pub invariant-loop-i : goal.invariant-loop-i
-invariant-loop-i g l =
+abbrev pub invariant-loop-correction : goal.invariant-loop-correction
+invariant-loop-correction g l =
     (l.guard.line.ghost_name ≡ l.initial.guard.line.ghost_name)
-    × (l.guard.count ≡ l.i)
+    × (count l.guard ≡ l.correction-index)
     × (restored l.guard ≡ restored l.initial.guard)
-    × (bytes l.guard ≡ patched (bytes l.initial.guard) l.found l.fixed l.i)
+    × (bytes l.guard ≡ patched (bytes l.initial.guard) (places_of l.corrections) (values_of l.corrections) l.correction-index)
