@@ -4,8 +4,9 @@ ghost use Rattle.fields.specs.Binary.{disc};
 ghost use Rattle.reed_solomon.specs.Lines.{code_of};
 ghost use Rattle.reed_solomon.specs.Disc.{disc_row_code, disc_column_code};
 
-use decoder::{ReedSolomon, Unmade, column_line, row_line};
+use decoder::{ReedSolomon, Unmade, disc_line};
 use fields::DiscTables;
+use reed_solomon::DiscCode;
 use solving::BerlekampMassey;
 use std::alloc::Global;
 
@@ -24,7 +25,7 @@ pub fn disc_codes(heap: Global) -> Result<DiscCodes, Unmade>
     ensures rows { MatchResult result (λ x. (code_of disc x.rows.code.numbers ≡ disc_row_code) × (x.rows.count ≡ 0)) (λ _. ⊥) }
     ensures columns { MatchResult result (λ x. (code_of disc x.columns.code.numbers ≡ disc_column_code) × (x.columns.count ≡ 0)) (λ _. ⊥) }
 {
-    let rows = row_line::<DiscTables, BerlekampMassey>(heap)?;
-    let columns = column_line::<DiscTables, BerlekampMassey>(heap)?;
+    let rows = disc_line::<DiscTables, BerlekampMassey>(heap, DiscCode::Rows)?;
+    let columns = disc_line::<DiscTables, BerlekampMassey>(heap, DiscCode::Columns)?;
     Ok(DiscCodes { rows, columns })
 }

@@ -1,15 +1,12 @@
-// One run of a new job over a frame, through the replay of a list with this one call.
-ghost use Rattle.std.specs.Prelude.{◌≡◌, [], ◌∷◌, map, Some, Result};
+// One run of a new job over a frame.
+ghost use Rattle.std.specs.Prelude.{◌≡◌};
 ghost use Rattle.job_rules.specs.Laws.{lines_in};
 ghost use Rattle.job_rules.specs.declared.records.Kind.TheVariants.{Row};
-ghost use Rattle.job_rules.specs.Lists.{request_of};
-ghost use Rattle.job_rules.specs.Questions.{run};
-ghost use Rattle.jobs.specs.States.{answer_of_run};
 ghost use Rattle.discs.specs.Correcting.{passes_offered, RanOnce};
 
 use codes::LineCode;
-use job_rules::{Answer, Call, Entry, Refusal, RunAnswer};
-use jobs::{Job, replay};
+use job_rules::{Refusal, RunAnswer};
+use jobs::Job;
 
 // The passes that correcting a frame may take.
 pub const PASSES: u64 = 6;
@@ -21,28 +18,6 @@ pub struct Correction<P: LineCode, Q: LineCode> {
     pub run: Result<RunAnswer, Refusal>,
 }
 
-// A list with one call, a run that waits for its answer.
-fn one_run<'a>(limit: u64) -> [Entry<'a>; 1]
-    ensures { map (λ e. request_of e.call) result ≡ run limit ∷ [] }
-{
-    [Entry {
-        call: Call::Run { limit },
-        answer: None,
-    }]
-}
-
-// What the entry of a run holds once the call was made.
-fn run_answer(entry: &Entry) -> Result<RunAnswer, Refusal>
-    requires { (answer : Result RunAnswer Refusal) × (entry.now.answer ≡ Some (answer_of_run answer)) }
-    ensures { entry.now.answer ≡ Some (answer_of_run result) }
-{
-    match entry.answer {
-        Some(Answer::Ran(run)) => Ok(run),
-        Some(Answer::Refused(why)) => Err(why),
-        _ => unreachable(),
-    }
-}
-
 // Corrects a frame by one run of at most six passes. A frame of another length than the codes ask is refused, and unchanged.
 pub fn correct_block<P: LineCode, Q: LineCode>(
     rows: P,
@@ -51,9 +26,8 @@ pub fn correct_block<P: LineCode, Q: LineCode>(
 ) -> Correction<P, Q>
     ensures { RanOnce P.LineCode Q.LineCode rows columns passes_offered frame.old frame.new result.job result.run }
 {
-    let mut list = one_run(PASSES);
-    let job = replay(rows, columns, frame, &mut list);
-    let run = run_answer(&list[0]);
+    let mut job = Job::new(rows, columns);
+    let run = job.run(frame, PASSES);
     Correction { job, run }
 }
 

@@ -1,11 +1,9 @@
 -- What a job does, the thorough reader does too, line by line.
-use Rattle.std.proofs.Common.{◌≡◌, ℕ, zero, suc, ◌+◌, ◌<◌, ◌≤◌, Bool, true, false, cond, not, eqb, ◌⊎◌, List, ◌∷◌, length, get_or, set, sym, refl, ap, ◌∙◌, subst, inl, inr, add-zero, arith}
+use Rattle.std.proofs.Common.{◌≡◌, ℕ, zero, suc, ◌+◌, ◌<◌, ◌≤◌, Bool, true, false, cond, not, eqb, ◌⊎◌, List, ◌∷◌, length, get_or, set, sym, refl, ap, ◌∙◌, subst, inl, inr, add-zero, arith, Option, Some, None}
 use Rattle.std.proofs.lemmas.List.{set-get_or, get_or-set_same, get_or-set_other}
 use Rattle.std.proofs.lemmas.Bool.{cases_eq}
 use Rattle.codes.specs.Meaning.{Meaning}
 use Rattle.codes.specs.Answers.{Decodes}
-use Rattle.codes.specs.declared.Decoded.{Decoded}
-use Rattle.codes.specs.declared.Decoded.TheVariants.{Mended, Stuck}
 use Rattle.job_rules.specs.declared.records.Standing.{Standing}
 use Rattle.job_rules.specs.declared.records.Standing.TheVariants.{Open, Sound, Stuck as Fast}
 use Rattle.job_rules.specs.declared.records.Record.{Record}
@@ -28,9 +26,9 @@ pub record Logged (kind : Kind) (n m : ℕ) (s : Seen) (log : Log) : Type 0 wher
   pub on : (k : ℕ) → k < n → unchanged kind k log ≡ done (get_or s.on k fresh)
   pub across : (k : ℕ) → k < m → unchanged (crossing kind) k log ≡ done (get_or s.across k fresh)
 
-decided_done : (r : Record) (a : Decoded) → done (decided r a) ≡ true
-decided_done r (Mended k) = refl
-decided_done r Stuck = refl
+decided_done : (r : Record) (a : Option ℕ) → done (decided r a) ≡ true
+decided_done r (Some k) = refl
+decided_done r None = refl
 
 pub opened_done : (b : Bool) (r : Record) → done (cond b r (opened r)) ≡ cond b (done r) false
 opened_done true r = refl
@@ -65,7 +63,7 @@ module _ (kind : Kind) (n m i : ℕ) (s t : Seen) (one two : List ℕ) (r' : Rec
 
 -- a decoding that changes nothing
 module _ (m : Meaning) (view : List ℕ → ℕ → List ℕ) (n i : ℕ) (s : Seen) where
-  idle_with : (a : Decoded) (r : Record) → get_or s.on i fresh ≡ r → decided r a ≡ r →
+  idle_with : (a : Option ℕ) (r : Record) → get_or s.on i fresh ≡ r → decided r a ≡ r →
       Decodes m (view s.frame i) (view s.frame i) a → Decoding m view n i s s
   idle_with a r at same d = record {
     answer = a;
@@ -81,17 +79,17 @@ module _ (m : Meaning) (view : List ℕ → ℕ → List ℕ) (n i : ℕ) (s : S
   again Open e o h = let z : ◌≡◌ {A = ℕ} 0 1 = cc in absurd (omega arith)
   again Sound e o h =
       let r = get_or s.on i fresh in
-      let same : decided r (Mended 0) ≡ r = sound r.standing e in
-      idle_with (Mended 0) r refl same (record { long = h.long; below = h.below; word = h; changes = differ_same (view s.frame i); near = omega arith })
+      let same : decided r (Some 0) ≡ r = sound r.standing e in
+      idle_with (Some 0) r refl same (record { long = h.long; below = h.below; word = h; changes = differ_same (view s.frame i); near = omega arith })
     where
-      sound : (st : Standing) → st ≡ Sound → decided (get_or s.on i fresh) (Mended 0) ≡ record { standing = st; tally = (get_or s.on i fresh).tally }
+      sound : (st : Standing) → st ≡ Sound → decided (get_or s.on i fresh) (Some 0) ≡ record { standing = st; tally = (get_or s.on i fresh).tally }
       sound st e = rw (add-zero (get_or s.on i fresh).tally, e)
   again Fast e o h =
       let r = get_or s.on i fresh in
-      let same : decided r Stuck ≡ r = stuck r.standing e in
-      idle_with Stuck r refl same (record { long = h.0; same = refl; far = h.1 })
+      let same : decided r None ≡ r = stuck r.standing e in
+      idle_with None r refl same (record { long = h.0; same = refl; far = h.1 })
     where
-      stuck : (st : Standing) → st ≡ Fast → decided (get_or s.on i fresh) Stuck ≡ record { standing = st; tally = (get_or s.on i fresh).tally }
+      stuck : (st : Standing) → st ≡ Fast → decided (get_or s.on i fresh) None ≡ record { standing = st; tally = (get_or s.on i fresh).tally }
       stuck st e = rw e
 
 -- the reader's headway where the job has come so far: it began with d decodings and met n lines unchanged

@@ -7,13 +7,12 @@ use Rattle.job_rules.specs.declared.records.Kind.{Kind}
 use Rattle.job_rules.specs.declared.records.Kind.TheVariants.{Row, Column}
 use Rattle.job_rules.specs.declared.answers.Effort.{Effort}
 use Rattle.job_rules.specs.declared.answers.Refusal.{Refusal}
-use Rattle.job_rules.specs.declared.answers.Answer.{Answer}
 use Rattle.job_rules.specs.Records.{fresh, tallies, crossing}
 use Rattle.job_rules.specs.Bounds.{most_lines, most_changes, Low}
 use Rattle.job_rules.specs.Questions.{Request, pass, run, redeliver, refusal, lines, highest_limit, most_calls}
 use Rattle.job_rules.specs.Lines.{row, code}
 use Rattle.job_rules.specs.Passes.{State, start, seen, Pass}
-use Rattle.job_rules.specs.Calls.{Work, Runs, Redelivery, called, Accepts, Does', Step, Performs, final, report}
+use Rattle.job_rules.specs.Calls.{Answer, Work, Runs, Redelivery, called, Accepts, Does', Step, Performs, final, report}
 use Rattle.job_rules.specs.Laws.{Shaped, CountsStayLow}
 use Rattle.job_rules.proofs.Differ.{differ_le}
 use Rattle.job_rules.proofs.Either.{lawful}

@@ -7,12 +7,11 @@ use Rattle.job_rules.specs.declared.records.Kind.{Kind}
 use Rattle.job_rules.specs.declared.records.Kind.TheVariants.{Row, Column}
 use Rattle.job_rules.specs.declared.answers.Effort.{Effort}
 use Rattle.job_rules.specs.declared.answers.Refusal.{Refusal}
-use Rattle.job_rules.specs.declared.answers.Answer.{Answer}
 use Rattle.job_rules.specs.Records.{fresh, crossing}
 use Rattle.job_rules.specs.Questions.{Request, pass, run, redeliver, lines}
 use Rattle.job_rules.specs.Lines.{line, code, InOrder}
 use Rattle.job_rules.specs.Passes.{State, Progress, Turn, turn, code_count, progress, no_effort, Pass}
-use Rattle.job_rules.specs.Calls.{Work, Runs, called, Accepts, Does'}
+use Rattle.job_rules.specs.Calls.{Answer, Work, Runs, called, Accepts, Does'}
 
 -- a count and another are b and the decodings, modulo 2^64
 abbrev pub Counted : (b count other decodings : ℕ) → Type 0

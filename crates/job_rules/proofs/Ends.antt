@@ -1,5 +1,5 @@
 -- How runs end.
-use Rattle.std.proofs.Common.{◌≡◌, ℕ, zero, suc, ◌<◌, ◌≤◌, Bool, true, false, cond, eqb, ◌⊎◌, get_or, Some, None, Option, sym, refl, ap, ◌∙◌, subst, inl, inr, arith, eqb-true}
+use Rattle.std.proofs.Common.{◌≡◌, ℕ, zero, suc, ◌<◌, ◌≤◌, Bool, true, false, cond, eqb, ◌⊎◌, get_or, Some, None, Option, sym, refl, ap, ◌∙◌, subst, inl, inr, arith, eqb-true, Ok}
 use borrow.Author.Tests.{eqb-false}
 use Rattle.std.proofs.lemmas.Bool.{cases_lt}
 use Rattle.codes.specs.Meaning.{Meaning}
@@ -11,12 +11,11 @@ use Rattle.job_rules.specs.declared.answers.Ending.{Ending}
 use Rattle.job_rules.specs.declared.answers.Ending.TheVariants.{Whole, Quiet, Limit}
 use Rattle.job_rules.specs.declared.answers.RunAnswer.{RunAnswer}
 use Rattle.job_rules.specs.declared.answers.Refusal.{Refusal}
-use Rattle.job_rules.specs.declared.answers.Answer.{Answer}
-use Rattle.job_rules.specs.declared.answers.Answer.TheVariants.{Ran}
+use Rattle.job_rules.specs.declared.answers.Outcome.TheVariants.{Ran}
 use Rattle.job_rules.specs.Records.{fresh, how_many, crossing}
 use Rattle.job_rules.specs.Questions.{run, refusal, lines}
 use Rattle.job_rules.specs.Passes.{State, records}
-use Rattle.job_rules.specs.Calls.{standing, ending, Work, Runs, run_answer, called, Does'}
+use Rattle.job_rules.specs.Calls.{Answer, standing, ending, Work, Runs, run_answer, called, Does'}
 use Rattle.job_rules.specs.Promise.{IsWhole, Exactly}
 use Rattle.job_rules.specs.Laws.{Shaped, SomeLine, Endings, RunEndings}
 use Rattle.job_rules.proofs.Standings.{one_of, counted_one}
@@ -89,10 +88,10 @@ module _ (p q : Meaning) (t : State) (h : Shaped p q t) where
   limit_is Quiet b = record { when = λ l. absurd (none_open b.0 l); only = λ e. let z : ◌≡◌ {A = ℕ} 0 1 = cc in absurd (omega arith) }
   limit_is Limit b = record { when = λ l. refl; only = λ e. counted_line p q Open t h b }
 
-ran_same : (a b : RunAnswer) → ◌≡◌ {A = Answer} (Ran a) (Ran b) → a ≡ b
+ran_same : (a b : RunAnswer) → ◌≡◌ {A = Answer} (Ok (Ran a)) (Ok (Ran b)) → a ≡ b
 ran_same a b e = cc
 
-accepted : (p q : Meaning) (limit : ℕ) (s t : State) (a : RunAnswer) (o : Option Refusal) → Does' o p q (run limit) s (Ran a) t →
+accepted : (p q : Meaning) (limit : ℕ) (s t : State) (a : RunAnswer) (o : Option Refusal) → Does' o p q (run limit) s (Ok (Ran a)) t →
     (w : Work) × (Runs p q limit Row (called s) t w × (a ≡ run_answer w t))
 accepted p q limit s t a (Some why) h = let e = h.0 in let z : ◌≡◌ {A = ℕ} 0 1 = cc in absurd (omega arith)
 accepted p q limit s t a None h = (h.0, (h.1.0, ran_same a (run_answer h.0 t) h.1.1))

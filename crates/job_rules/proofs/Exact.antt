@@ -1,5 +1,5 @@
 -- What a job does at a list of calls leaves no choice.
-use Rattle.std.proofs.Common.{◌≡◌, ℕ, zero, suc, ◌+◌, ◌≤◌, List, [], ◌∷◌, map, length, get_or, Some, None, Option, sym, refl, ap, ◌∙◌, subst, inl, inr, arith}
+use Rattle.std.proofs.Common.{◌≡◌, ℕ, zero, suc, ◌+◌, ◌≤◌, List, [], ◌∷◌, map, length, get_or, Some, None, Option, sym, refl, ap, ◌∙◌, subst, inl, inr, arith, Ok}
 use Rattle.codes.specs.Meaning.{Meaning, Lawful, differ}
 use Rattle.job_rules.specs.declared.records.Standing.{Standing}
 use Rattle.job_rules.specs.declared.records.Standing.TheVariants.{Open, Sound, Stuck}
@@ -9,13 +9,12 @@ use Rattle.job_rules.specs.declared.records.Kind.{Kind}
 use Rattle.job_rules.specs.declared.records.Kind.TheVariants.{Row, Column}
 use Rattle.job_rules.specs.declared.answers.Effort.{Effort}
 use Rattle.job_rules.specs.declared.answers.Refusal.{Refusal}
-use Rattle.job_rules.specs.declared.answers.Answer.{Answer}
-use Rattle.job_rules.specs.declared.answers.Answer.TheVariants.{Passed, Ran}
+use Rattle.job_rules.specs.declared.answers.Outcome.TheVariants.{Passed, Ran}
 use Rattle.job_rules.specs.Records.{fresh, crossing}
 use Rattle.job_rules.specs.Questions.{Request, pass, run, redeliver, refusal, lines}
 use Rattle.job_rules.specs.Lines.{line, code, Seen, InOrder}
 use Rattle.job_rules.specs.Passes.{State, start, Progress, Turn, turn, seen, code_count, progress, no_effort, passed, Pass}
-use Rattle.job_rules.specs.Calls.{standing, Work, added, Runs, Redelivery, called, pass_answer, run_answer, Accepts, Does', Step, Performs, final}
+use Rattle.job_rules.specs.Calls.{Answer, standing, Work, added, Runs, Redelivery, called, pass_answer, run_answer, Accepts, Does', Step, Performs, final}
 use Rattle.job_rules.specs.Laws.{Pinned}
 use Rattle.codes.proofs.Views.{Shows}
 use Rattle.job_rules.proofs.Either.{bytes, shows, lawful}
@@ -107,10 +106,10 @@ module _ (p q : Meaning) (lp : Lawful p) (lq : Lawful q) where
   accepts_one : (x : Request) (s : State) (g h : Step) → Fit s → Accepts p q x s g.answer g.after → Accepts p q x s h.answer h.after → g ≡ h
   accepts_one (pass kind) s g h f a b =
       let same = pass_one kind (called s) g.after h.after a.0 b.0 f a.1.0 b.1.0 in
-      steps_same g h (a.1.1 ∙ ap (λ z. Passed (pass_answer kind z g.after)) same.1 ∙ ap (λ z. Passed (pass_answer kind b.0 z)) same.0 ∙ sym b.1.1) same.0
+      steps_same g h (a.1.1 ∙ ap (λ z. Ok (Passed (pass_answer kind z g.after))) same.1 ∙ ap (λ z. Ok (Passed (pass_answer kind b.0 z))) same.0 ∙ sym b.1.1) same.0
   accepts_one (run l) s g h f a b =
       let same = runs_one l Row (called s) g.after h.after a.0 b.0 f a.1.0 b.1.0 in
-      steps_same g h (a.1.1 ∙ ap (λ z. Ran (run_answer z g.after)) same.1 ∙ ap (λ z. Ran (run_answer b.0 z)) same.0 ∙ sym b.1.1) same.0
+      steps_same g h (a.1.1 ∙ ap (λ z. Ok (Ran (run_answer z g.after))) same.1 ∙ ap (λ z. Ok (Ran (run_answer b.0 z))) same.0 ∙ sym b.1.1) same.0
   accepts_one (redeliver i new) s g h f a b = steps_same g h (a.1 ∙ sym b.1) (redelivery_one i new (called s) g.after h.after f a.0 b.0)
 
   does_one : (x : Request) (s : State) (g h : Step) (o : Option Refusal) → refusal p q x s.frame s.counts.calls ≡ o → Does' o p q x s g.answer g.after → Does' o p q x s h.answer h.after → g ≡ h

@@ -4,19 +4,17 @@ use Rattle.std.proofs.lemmas.List.{get_or-set_same, get_or-set_other, set_past}
 use Rattle.std.proofs.lemmas.Bool.{cases_eq, cases_lt}
 use Rattle.codes.specs.Meaning.{Meaning, Lawful, differ}
 use Rattle.codes.specs.Answers.{Decodes}
-use Rattle.codes.specs.declared.Decoded.TheVariants.{Mended}
 use Rattle.job_rules.specs.declared.records.Standing.{Standing}
 use Rattle.job_rules.specs.declared.records.Standing.TheVariants.{Open, Sound, Stuck}
 use Rattle.job_rules.specs.declared.records.Record.{Record}
 use Rattle.job_rules.specs.declared.records.Kind.TheVariants.{Row, Column}
 use Rattle.job_rules.specs.declared.answers.Effort.{Effort}
 use Rattle.job_rules.specs.declared.answers.Refusal.{Refusal}
-use Rattle.job_rules.specs.declared.answers.Answer.{Answer}
 use Rattle.job_rules.specs.Records.{fresh, opened}
 use Rattle.job_rules.specs.Questions.{Request, pass, run, redeliver, refusal}
 use Rattle.job_rules.specs.Lines.{row, column, decided, where_differ, InOrder}
 use Rattle.job_rules.specs.Passes.{State, start, Progress, Turn, turn, progress, no_effort, Pass}
-use Rattle.job_rules.specs.Calls.{Work, Runs, Redelivery, called, Accepts, Does', Step, Performs, final}
+use Rattle.job_rules.specs.Calls.{Answer, Work, Runs, Redelivery, called, Accepts, Does', Step, Performs, final}
 use Rattle.job_rules.specs.Laws.{Shaped}
 use Rattle.job_rules.specs.FirstRows.{WasRefused, NoRows, NoRowsYet, BeforeRows, RowsInReach, Restored, BeginsWith, FirstRowPassRestores}
 use Rattle.codes.proofs.Views.{rows_show, row_long}
@@ -127,10 +125,10 @@ module _ (p q : Meaning) where
           let near = r.near k within in
           let target_row = row p.size target k in
           let was : length (row p.size s.at.frame k) ≡ p.size = row_long p.size q.size k s.at.frame size within in
-          let meant : Decodes p (row p.size s.at.frame k) target_row (Mended (differ (row p.size s.at.frame k) target_row)) =
+          let meant : Decodes p (row p.size s.at.frame k) target_row (Some (differ (row p.size s.at.frame k) target_row)) =
           record { long = was; below = r.below k within; word = r.words k within; changes = refl; near = near } in
           let here = subst (λ (x : List ℕ). Decodes p x d.line' d.answer) same d.decodes in
-          let both = decodes_one p lp (row p.size s.at.frame k) d.line' target_row d.answer (Mended (differ (row p.size s.at.frame k) target_row)) here meant in
+          let both = decodes_one p lp (row p.size s.at.frame k) d.line' target_row d.answer (Some (differ (row p.size s.at.frame k) target_row)) here meant in
           let record_is : get_or t.at.on k fresh ≡ decided (get_or w.at.on k fresh) d.answer = ap (λ x. get_or x k fresh) d.mark ∙ get_or-set_same w.at.on k _ fresh (omega arith) in
           let sound : (get_or t.at.on k fresh).standing ≡ Sound = ap (λ x. x.standing) record_is ∙ ap (λ x. (decided (get_or w.at.on k fresh) x).standing) both.0 in
           record {

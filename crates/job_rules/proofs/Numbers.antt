@@ -1,5 +1,5 @@
 -- The numbers of the lines that have a standing.
-use Rattle.std.proofs.Common.{◌≡◌, ℕ, zero, suc, ◌+◌, ◌<◌, Bool, true, false, cond, List, [], ◌∷◌, length, get_or, Some, None, Option, sym, refl, ap, ◌∙◌, subst, arith}
+use Rattle.std.proofs.Common.{◌≡◌, ℕ, zero, suc, ◌+◌, ◌<◌, Bool, true, false, cond, List, [], ◌∷◌, length, get_or, Some, None, Option, sym, refl, ap, ◌∙◌, subst, arith, Ok}
 use Rattle.std.proofs.lemmas.List.Sums.{sum_by-cons}
 use Rattle.codes.specs.Meaning.{Meaning}
 use Rattle.job_rules.specs.declared.records.Standing.{Standing}
@@ -8,12 +8,11 @@ use Rattle.job_rules.specs.declared.records.Record.{Record}
 use Rattle.job_rules.specs.declared.records.Kind.{Kind}
 use Rattle.job_rules.specs.declared.answers.PassAnswer.{PassAnswer}
 use Rattle.job_rules.specs.declared.answers.Refusal.{Refusal}
-use Rattle.job_rules.specs.declared.answers.Answer.{Answer}
-use Rattle.job_rules.specs.declared.answers.Answer.TheVariants.{Passed}
+use Rattle.job_rules.specs.declared.answers.Outcome.TheVariants.{Passed}
 use Rattle.job_rules.specs.Records.{fresh, is_same_standing, how_many}
 use Rattle.job_rules.specs.Questions.{pass, refusal}
 use Rattle.job_rules.specs.Passes.{State, records}
-use Rattle.job_rules.specs.Calls.{called, pass_answer, Does'}
+use Rattle.job_rules.specs.Calls.{Answer, called, pass_answer, Does'}
 use Rattle.job_rules.specs.Laws.{Shaped, Has, Numbered, StuckCounts}
 use Rattle.job_rules.proofs.Standings.{same_is, same_self}
 use Rattle.job_rules.proofs.Whole.{table_long}
@@ -89,10 +88,10 @@ module _ (st : Standing) where
         count = counted 0 rs;
       }
 
-passed_same : (a b : PassAnswer) → ◌≡◌ {A = Answer} (Passed a) (Passed b) → a ≡ b
+passed_same : (a b : PassAnswer) → ◌≡◌ {A = Answer} (Ok (Passed a)) (Ok (Passed b)) → a ≡ b
 passed_same a b e = cc
 
-stuck_of : (p q : Meaning) (kind : Kind) (s t : State) (a : PassAnswer) (o : Option Refusal) → Shaped p q s → Does' o p q (pass kind) s (Passed a) t → Shaped p q t × (a.stuck ≡ how_many Stuck (records kind t))
+stuck_of : (p q : Meaning) (kind : Kind) (s t : State) (a : PassAnswer) (o : Option Refusal) → Shaped p q s → Does' o p q (pass kind) s (Ok (Passed a)) t → Shaped p q t × (a.stuck ≡ how_many Stuck (records kind t))
 stuck_of p q kind s t a (Some why) h d = let e = d.0 in let z : ◌≡◌ {A = ℕ} 0 1 = cc in absurd (omega arith)
 stuck_of p q kind s t a None h d =
     (pass_shaped p q kind (called s) t d.0 (record { rows = h.rows; columns = h.columns }) d.1.0, ap (λ x. x.stuck) (passed_same a (pass_answer kind d.0 t) d.1.1))

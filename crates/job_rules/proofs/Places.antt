@@ -1,7 +1,5 @@
 -- where-differ, place by place.
-use Rattle.std.proofs.Common.{◌≡◌, ℕ, zero, suc, ◌<◌, ◌≤◌, min, Bool, true, false, cond, eqb, ◌⊎◌, List, [], ◌∷◌, map, length, get_or, take, set, sym, refl, ap, ◌∙◌, inl, inr, arith, eq-eqb}
-use Rattle.std.proofs.lemmas.List.{take_all}
-use Rattle.std.proofs.lemmas.Bool.{cases_lt}
+use Rattle.std.proofs.Common.{◌≡◌, ℕ, zero, suc, ◌<◌, ◌≤◌, Bool, true, false, cond, eqb, List, [], ◌∷◌, map, length, get_or, take, set, refl, ap, ◌∙◌, arith, eq-eqb}
 use Rattle.job_rules.specs.Lines.{where_differ}
 
 module _ {X : Type 0} (f : X → X) where
@@ -108,11 +106,3 @@ wd_more f d (suc k) (x ∷ xs) (y ∷ ys) (r ∷ rs) l w =
     under : {X : Type 0} (h : X) (b : Bool) (u v : List X) → h ∷ cond b u v ≡ cond b (h ∷ u) (h ∷ v)
     under h true u v = refl
     under h false u v = refl
-
--- no more is taken than there is
-pub takes_same : {X : Type 0} (i n : ℕ) (xs : List X) → i ≡ min n (length xs) → take i xs ≡ take n xs
-takes_same i n xs e = go (cases_lt n (length xs))
-  where
-    go : (n < length xs) ⊎ (length xs ≤ n) → take i xs ≡ take n xs
-    go (inl h) = ap (λ z. take z xs) (omega arith)
-    go (inr h) = take_all i xs (omega arith) ∙ sym (take_all n xs h)

@@ -7,12 +7,11 @@ use Rattle.job_rules.specs.declared.records.Standing.{Standing}
 use Rattle.job_rules.specs.declared.records.Standing.TheVariants.{Open}
 use Rattle.job_rules.specs.declared.records.Kind.TheVariants.{Row, Column}
 use Rattle.job_rules.specs.declared.answers.Refusal.{Refusal}
-use Rattle.job_rules.specs.declared.answers.Answer.{Answer}
 use Rattle.job_rules.specs.Records.{fresh, is_same_standing}
 use Rattle.job_rules.specs.Questions.{Request, pass, run, redeliver, refusal}
 use Rattle.job_rules.specs.Lines.{row, column}
 use Rattle.job_rules.specs.Passes.{State, start}
-use Rattle.job_rules.specs.Calls.{called, Accepts, Does', Step, Performs, final}
+use Rattle.job_rules.specs.Calls.{Answer, called, Accepts, Does', Step, Performs, final}
 use Rattle.job_rules.specs.Reader.{Log, opens, changed, Takes, Reads', counted, ReaderStep, History}
 use Rattle.job_rules.specs.Promise.{Gives, plainly, Beside, IsWhole, WholeReading, left, EqualWhenNear, Promise}
 use Rattle.job_rules.proofs.Differ.{differ_same}

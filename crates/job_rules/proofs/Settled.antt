@@ -1,11 +1,9 @@
 -- A line that is not open is what a decoding of it would leave.
-use Rattle.std.proofs.Common.{◌≡◌, ℕ, ◌+◌, ◌*◌, ◌<◌, ◌≤◌, Bool, true, false, cond, eqb, ◌⊎◌, List, length, get_or, set, sym, refl, ap, ◌∙◌, subst, inl, inr, arith, eqb-true}
+use Rattle.std.proofs.Common.{◌≡◌, ℕ, ◌+◌, ◌*◌, ◌<◌, ◌≤◌, Bool, true, false, cond, eqb, ◌⊎◌, List, length, get_or, set, sym, refl, ap, ◌∙◌, subst, inl, inr, arith, eqb-true, Option, Some, None}
 use Rattle.std.proofs.lemmas.List.{get_or-set_same, get_or-set_other, length-set, ext_get_or}
 use Rattle.std.proofs.lemmas.Bool.{cases_eq}
 use Rattle.codes.specs.Meaning.{Meaning, Word, InReach, differ}
 use Rattle.codes.specs.Answers.{Decodes}
-use Rattle.codes.specs.declared.Decoded.{Decoded}
-use Rattle.codes.specs.declared.Decoded.TheVariants.{Mended, Stuck}
 use Rattle.job_rules.specs.declared.records.Standing.{Standing}
 use Rattle.job_rules.specs.declared.records.Standing.TheVariants.{Open, Sound, Stuck as Fast}
 use Rattle.job_rules.specs.declared.records.Record.{Record}
@@ -54,13 +52,13 @@ pub record Settled (m m₂ : Meaning) (view view₂ : List ℕ → ℕ → List 
   pub wide : m.size ≤ length s.across
   pub size : length s.frame ≡ len
 
-settled_by : (m : Meaning) (r : Record) (line line' : List ℕ) (a : Decoded) → Decodes m line line' a → Settles m (decided r a).standing line'
-settled_by m r line line' (Mended k) d = d.word
-settled_by m r line line' Stuck d = (ap length d.same ∙ d.long, λ w. d.far (subst (InReach m) d.same w))
+settled_by : (m : Meaning) (r : Record) (line line' : List ℕ) (a : Option ℕ) → Decodes m line line' a → Settles m (decided r a).standing line'
+settled_by m r line line' (Some k) d = d.word
+settled_by m r line line' None d = (ap length d.same ∙ d.long, λ w. d.far (subst (InReach m) d.same w))
 
-pub decodes_long : (m : Meaning) (line line' : List ℕ) (a : Decoded) → Decodes m line line' a → (length line ≡ m.size) × (length line' ≡ m.size)
-decodes_long m line line' (Mended k) d = (d.long, d.word.long)
-decodes_long m line line' Stuck d = (d.long, ap length d.same ∙ d.long)
+pub decodes_long : (m : Meaning) (line line' : List ℕ) (a : Option ℕ) → Decodes m line line' a → (length line ≡ m.size) × (length line' ≡ m.size)
+decodes_long m line line' (Some k) d = (d.long, d.word.long)
+decodes_long m line line' None d = (d.long, ap length d.same ∙ d.long)
 
 module _ (m m₂ : Meaning) (view view₂ : List ℕ → ℕ → List ℕ) (lines len : ℕ) (crosses : Crosses view view₂ lines m.size len) where
   -- line i became line', with the record r', and what crosses its changed places was opened

@@ -7,11 +7,10 @@ use Rattle.job_rules.specs.declared.records.Counts.{Counts}
 use Rattle.job_rules.specs.declared.records.Kind.{Kind}
 use Rattle.job_rules.specs.declared.records.Kind.TheVariants.{Row}
 use Rattle.job_rules.specs.declared.answers.Refusal.{Refusal}
-use Rattle.job_rules.specs.declared.answers.Answer.{Answer}
 use Rattle.job_rules.specs.Records.{crossing}
 use Rattle.job_rules.specs.Questions.{Request, pass, run, redeliver, refusal}
 use Rattle.job_rules.specs.Passes.{State, start}
-use Rattle.job_rules.specs.Calls.{Work, Runs, called, Accepts, Does', Step, Performs, final, passes_of, decodings_of, redelivered_of, Summed}
+use Rattle.job_rules.specs.Calls.{Answer, Work, Runs, called, Accepts, Does', Step, Performs, final, passes_of, decodings_of, redelivered_of, Summed}
 
 -- what a run adds to the counts
 pub record Adds (w : Work) (n n' : Counts) : Type 0 where

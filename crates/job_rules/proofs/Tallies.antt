@@ -1,12 +1,10 @@
 -- Tallies and changed places: what a decoding adds to them.
-use Rattle.std.proofs.Common.{◌≡◌, ℕ, zero, suc, ◌+◌, ◌*◌, ◌<◌, ◌≤◌, List, length, get_or, sum, sym, refl, ap, ◌∙◌, subst, suc-mul, arith}
+use Rattle.std.proofs.Common.{◌≡◌, ℕ, zero, suc, ◌+◌, ◌*◌, ◌<◌, ◌≤◌, List, length, get_or, sum, sym, refl, ap, ◌∙◌, subst, suc-mul, arith, Option, Some, None}
 use lib.ListN.{get_or-map}
 use Rattle.std.proofs.lemmas.List.Sums.{sum_by-set, sum-map}
 use Rattle.std.proofs.lemmas.List.{get_or-set_same, get_or-set_other}
 use Rattle.codes.specs.Meaning.{Meaning, differ}
 use Rattle.codes.specs.Answers.{Decodes}
-use Rattle.codes.specs.declared.Decoded.{Decoded}
-use Rattle.codes.specs.declared.Decoded.TheVariants.{Mended, Stuck}
 use Rattle.job_rules.specs.declared.records.Standing.{Standing}
 use Rattle.job_rules.specs.declared.records.Standing.TheVariants.{Open, Sound, Stuck as Fast}
 use Rattle.job_rules.specs.declared.records.Record.{Record}
@@ -29,13 +27,13 @@ wd_tally xs ys rs k =
     sym (get_or-map f (where_differ opened xs ys rs) k fresh) ∙ ap (λ x. get_or x k 0) (wd_keeps opened f (λ r. refl) xs ys rs) ∙ get_or-map f rs k fresh
 
 -- what the record gains is what the line changed
-decided_tally : (m : Meaning) (r : Record) (one two : List ℕ) (a : Decoded) → Decodes m one two a → (decided r a).tally ≡ r.tally + differ one two
-decided_tally m r one two (Mended k) d = ap (λ x. r.tally + x) (sym d.changes)
-decided_tally m r one two Stuck d = omega (arith, ap (differ one) d.same, differ_same one)
+decided_tally : (m : Meaning) (r : Record) (one two : List ℕ) (a : Option ℕ) → Decodes m one two a → (decided r a).tally ≡ r.tally + differ one two
+decided_tally m r one two (Some k) d = ap (λ x. r.tally + x) (sym d.changes)
+decided_tally m r one two None d = omega (arith, ap (differ one) d.same, differ_same one)
 
-pub decided_near : (m : Meaning) (one two : List ℕ) (a : Decoded) → Decodes m one two a → differ one two ≤ m.reach
-decided_near m one two (Mended k) d = omega (arith, d.changes, d.near)
-decided_near m one two Stuck d = omega (arith, ap (differ one) d.same, differ_same one)
+pub decided_near : (m : Meaning) (one two : List ℕ) (a : Option ℕ) → Decodes m one two a → differ one two ≤ m.reach
+decided_near m one two (Some k) d = omega (arith, d.changes, d.near)
+decided_near m one two None d = omega (arith, ap (differ one) d.same, differ_same one)
 
 module _ (m : Meaning) (view : List ℕ → ℕ → List ℕ) (n i : ℕ) (s t : Seen) (d : Decoding m view n i s t) where
   abbrev gain : ℕ

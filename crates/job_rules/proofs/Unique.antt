@@ -2,8 +2,6 @@
 use Rattle.std.proofs.Common.{◌≡◌, ℕ, zero, suc, ◌+◌, ◌*◌, List, [], ◌∷◌, length, get_or, set, Some, None, Option, sym, refl, ap, ◌∙◌, subst, arith}
 use Rattle.codes.specs.Meaning.{Meaning, Lawful, differ}
 use Rattle.codes.specs.Answers.{Decodes}
-use Rattle.codes.specs.declared.Decoded.{Decoded}
-use Rattle.codes.specs.declared.Decoded.TheVariants.{Mended, Stuck}
 use Rattle.job_rules.specs.declared.records.Record.{Record}
 use Rattle.job_rules.specs.declared.records.Kind.{Kind}
 use Rattle.job_rules.specs.declared.records.Kind.TheVariants.{Row, Column}
@@ -19,17 +17,17 @@ use Rattle.job_rules.proofs.Either.{bytes, shows, lawful}
 use Rattle.job_rules.proofs.Accepted.{accepted_fits}
 
 -- a line is decoded to one line, with one answer
-pub decodes_one : (m : Meaning) → Lawful m → (line one two : List ℕ) (a b : Decoded) → Decodes m line one a → Decodes m line two b → (a ≡ b) × (one ≡ two)
-decodes_one m law line one two (Mended j) (Mended k) d e =
+pub decodes_one : (m : Meaning) → Lawful m → (line one two : List ℕ) (a b : Option ℕ) → Decodes m line one a → Decodes m line two b → (a ≡ b) × (one ≡ two)
+decodes_one m law line one two (Some j) (Some k) d e =
     let v = differ_via line one two (d.long ∙ sym d.word.long) (e.long ∙ sym e.word.long) in
     let same = law.apart one two d.word e.word (omega (arith, v, d.changes, e.changes, d.near, e.near)) in
     let n : j ≡ k = sym d.changes ∙ ap (differ line) same ∙ e.changes in
-    (ap Mended n, same)
-decodes_one m law line one two (Mended j) Stuck d e =
+    (ap Some n, same)
+decodes_one m law line one two (Some j) None d e =
     absurd (e.far (record { long = d.long; below = d.below; word = one; is = d.word; near = omega (arith, d.changes, d.near) }))
-decodes_one m law line one two Stuck (Mended k) d e =
+decodes_one m law line one two None (Some k) d e =
     absurd (d.far (record { long = e.long; below = e.below; word = two; is = e.word; near = omega (arith, e.changes, e.near) }))
-decodes_one m law line one two Stuck Stuck d e = (refl, d.same ∙ sym e.same)
+decodes_one m law line one two None None d e = (refl, d.same ∙ sym e.same)
 
 abbrev seen_of : List ℕ → List Record → List Record → Seen
 seen_of f o a = record { frame = f; on = o; across = a }

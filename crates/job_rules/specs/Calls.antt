@@ -1,5 +1,5 @@
 -- What runs, redeliveries and lists of calls do, and what they answer.
-use Rattle.std.specs.Prelude.{◌≡◌, ℕ, zero, suc, ◌+◌, ◌≤◌, cond, ◌⊎◌, List, [], ◌∷◌, Some, None, sum_by, Option, ◌==◌, slice_index_or, slice_set}
+use Rattle.std.specs.Prelude.{◌≡◌, ℕ, zero, suc, ◌+◌, ◌≤◌, cond, ◌⊎◌, List, [], ◌∷◌, Some, None, Ok, Err, sum_by, Option, Result, ◌==◌, slice_index_or, slice_set}
 use Rattle.codes.specs.Meaning.{Meaning, differ}
 use Rattle.job_rules.specs.declared.records.Standing.{Standing}
 use Rattle.job_rules.specs.declared.records.Standing.TheVariants.{Open, Stuck}
@@ -13,8 +13,8 @@ use Rattle.job_rules.specs.declared.answers.PassAnswer.{PassAnswer}
 use Rattle.job_rules.specs.declared.answers.RunAnswer.{RunAnswer}
 use Rattle.job_rules.specs.declared.answers.Refusal.{Refusal}
 use Rattle.job_rules.specs.declared.answers.Report.{Report}
-use Rattle.job_rules.specs.declared.answers.Answer.{Answer}
-use Rattle.job_rules.specs.declared.answers.Answer.TheVariants.{Passed, Ran, Redelivered, Refused}
+use Rattle.job_rules.specs.declared.answers.Outcome.{Outcome}
+use Rattle.job_rules.specs.declared.answers.Outcome.TheVariants.{Passed, Ran, Redelivered}
 use Rattle.job_rules.specs.Records.{fresh, opened, how_many, tallies, crossing}
 use Rattle.job_rules.specs.Questions.{Request, pass, run, redeliver, refusal}
 use Rattle.job_rules.specs.Lines.{row, where_differ, Seen, Becomes}
@@ -86,23 +86,27 @@ called s = record {
   column_count = s.column_count;
 }
 
+-- the answer to a call: what it came to, or why it is refused
+abbrev pub Answer : Type 0
+Answer = Result Outcome Refusal
+
 -- what a pass answers that leaves t: also how many lines of its kind stand stuck then
 abbrev pub pass_answer : Kind → Effort → (t : State) → PassAnswer
-pass_answer kind e t = record { decodings = e.decodings; changes = e.changes; stuck = how_many Stuck (records kind t) }
+pass_answer kind e t = record { effort = e; stuck = how_many Stuck (records kind t) }
 
 -- what a run answers that leaves t
 abbrev pub run_answer : Work → (t : State) → RunAnswer
-run_answer w t = record { ending = ending t; passes = w.passes; decodings = w.decodings; changes = w.changes }
+run_answer w t = record { ending = ending t; passes = w.passes; effort = record { decodings = w.decodings; changes = w.changes } }
 
 -- an accepted call. A run begins with the rows
 abbrev pub Accepts : (p q : Meaning) → Request → (s : State) → Answer → (t : State) → Type 0
-Accepts p q (pass kind) s answer t = (e : Effort) × (Pass p q kind (called s) t e × (answer ≡ Passed (pass_answer kind e t)))
-Accepts p q (run limit) s answer t = (w : Work) × (Runs p q limit Row (called s) t w × (answer ≡ Ran (run_answer w t)))
-Accepts p q (redeliver i bytes) s answer t = Redelivery p q i bytes (called s) t × (answer ≡ Redelivered (differ (row p.size s.frame i) bytes))
+Accepts p q (pass kind) s answer t = (e : Effort) × (Pass p q kind (called s) t e × (answer ≡ Ok (Passed (pass_answer kind e t))))
+Accepts p q (run limit) s answer t = (w : Work) × (Runs p q limit Row (called s) t w × (answer ≡ Ok (Ran (run_answer w t))))
+Accepts p q (redeliver i bytes) s answer t = Redelivery p q i bytes (called s) t × (answer ≡ Ok (Redelivered (differ (row p.size s.frame i) bytes)))
 
 -- a call that is refused changes nothing
 abbrev pub Does' : Option Refusal → (p q : Meaning) → Request → (s : State) → Answer → (t : State) → Type 0
-Does' (Some why) p q request s answer t = (answer ≡ Refused why) × (t ≡ s)
+Does' (Some why) p q request s answer t = (answer ≡ Err why) × (t ≡ s)
 Does' None p q request s answer t = Accepts p q request s answer t
 
 -- a call of a job that has s gets this answer, and leaves t
@@ -128,24 +132,24 @@ final s (g ∷ steps) = final g.after steps
 
 -- what an answer adds to the report: the passes
 abbrev pub passes_of : Answer → ℕ
-passes_of (Passed a) = 1
-passes_of (Ran a) = a.passes
-passes_of (Redelivered n) = 0
-passes_of (Refused why) = 0
+passes_of (Ok (Passed a)) = 1
+passes_of (Ok (Ran a)) = a.passes
+passes_of (Ok (Redelivered n)) = 0
+passes_of (Err why) = 0
 
 -- the decodings
 abbrev pub decodings_of : Answer → ℕ
-decodings_of (Passed a) = a.decodings
-decodings_of (Ran a) = a.decodings
-decodings_of (Redelivered n) = 0
-decodings_of (Refused why) = 0
+decodings_of (Ok (Passed a)) = a.effort.decodings
+decodings_of (Ok (Ran a)) = a.effort.decodings
+decodings_of (Ok (Redelivered n)) = 0
+decodings_of (Err why) = 0
 
 -- the places changed by redeliveries
 abbrev pub redelivered_of : Answer → ℕ
-redelivered_of (Passed a) = 0
-redelivered_of (Ran a) = 0
-redelivered_of (Redelivered n) = n
-redelivered_of (Refused why) = 0
+redelivered_of (Ok (Passed a)) = 0
+redelivered_of (Ok (Ran a)) = 0
+redelivered_of (Ok (Redelivered n)) = n
+redelivered_of (Err why) = 0
 
 -- the counts of the report are sums over the answers given
 pub record Summed (answers : List Answer) (s : State) : Type 0 where

@@ -1,23 +1,19 @@
 -- The first row pass of a job.
-use Rattle.std.specs.Prelude.{◌≡◌, ℕ, suc, ◌*◌, ◌<◌, ◌≤◌, List, [], ◌∷◌, length, None, slice_index_or}
+use Rattle.std.specs.Prelude.{◌≡◌, ℕ, suc, ◌*◌, ◌<◌, ◌≤◌, List, [], ◌∷◌, length, Ok, Err, None, slice_index_or}
 use Rattle.codes.specs.Meaning.{Meaning, Lawful, Word, Below, differ}
 use Rattle.job_rules.specs.declared.records.Standing.TheVariants.{Sound}
 use Rattle.job_rules.specs.declared.records.Kind.TheVariants.{Row, Column}
 use Rattle.job_rules.specs.declared.answers.Effort.{Effort}
-use Rattle.job_rules.specs.declared.answers.Answer.{Answer}
-use Rattle.job_rules.specs.declared.answers.Answer.TheVariants.{Passed, Ran, Redelivered, Refused}
 use Rattle.job_rules.specs.Records.{fresh}
 use Rattle.job_rules.specs.Questions.{Request, pass, run, redeliver, refusal}
 use Rattle.job_rules.specs.Lines.{row}
 use Rattle.job_rules.specs.Passes.{State, start, Pass}
-use Rattle.job_rules.specs.Calls.{Work, Runs, called, Does, Step, Performs, final}
+use Rattle.job_rules.specs.Calls.{Answer, Work, Runs, called, Does, Step, Performs, final}
 
 -- a call that was refused
 abbrev pub WasRefused : Answer → Type 0
-WasRefused (Passed a) = ⊥
-WasRefused (Ran a) = ⊥
-WasRefused (Redelivered n) = ⊥
-WasRefused (Refused why) = Unit {0}
+WasRefused (Ok outcome) = ⊥
+WasRefused (Err why) = Unit {0}
 
 -- a call that decodes no row: a column pass, a redelivery, or one that was refused
 abbrev pub NoRows : Request → Answer → Type 0

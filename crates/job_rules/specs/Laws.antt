@@ -1,5 +1,5 @@
 -- Laws above the definitions that the job and the thorough reader share.
-use Rattle.std.specs.Prelude.{◌≡◌, ℕ, zero, suc, ◌+◌, ◌<◌, true, false, List, [], ◌∷◌, ◌++◌, length, Some, None, ◌≢◌, slice_index, slice_index_or}
+use Rattle.std.specs.Prelude.{◌≡◌, ℕ, zero, suc, ◌+◌, ◌<◌, true, false, List, [], ◌∷◌, ◌++◌, length, Ok, Some, None, ◌≢◌, slice_index, slice_index_or}
 use Rattle.codes.specs.Meaning.{Meaning, Lawful, differ}
 use Rattle.job_rules.specs.declared.records.Standing.{Standing}
 use Rattle.job_rules.specs.declared.records.Standing.TheVariants.{Open, Stuck}
@@ -9,14 +9,13 @@ use Rattle.job_rules.specs.declared.answers.Effort.{Effort}
 use Rattle.job_rules.specs.declared.answers.PassAnswer.{PassAnswer}
 use Rattle.job_rules.specs.declared.answers.RunAnswer.{RunAnswer}
 use Rattle.job_rules.specs.declared.answers.Refusal.{Refusal}
-use Rattle.job_rules.specs.declared.answers.Answer.{Answer}
-use Rattle.job_rules.specs.declared.answers.Answer.TheVariants.{Passed, Ran}
+use Rattle.job_rules.specs.declared.answers.Outcome.TheVariants.{Passed, Ran}
 use Rattle.job_rules.specs.Records.{fresh, crossing}
 use Rattle.job_rules.specs.Bounds.{Low}
 use Rattle.job_rules.specs.Questions.{Request, pass, run, lines, Question, first_no}
 use Rattle.job_rules.specs.Lines.{Seen, Decoding}
 use Rattle.job_rules.specs.Passes.{State, start, records, Pass}
-use Rattle.job_rules.specs.Calls.{Delivery, Work, Runs, Does, Step, Performs, final, report}
+use Rattle.job_rules.specs.Calls.{Answer, Delivery, Work, Runs, Does, Step, Performs, final, report}
 use Rattle.job_rules.specs.Reader.{Event, Log, given, decoded, lies_on, unchanged, Reader, AllPasses}
 use Rattle.job_rules.specs.Promise.{IsWhole, Exactly, Promise}
 
@@ -42,7 +41,7 @@ pub record Endings (p q : Meaning) (limit : ℕ) (a : RunAnswer) (t : State) : T
 
 -- so does every run that is accepted
 abbrev pub RunEndings : Type 0
-RunEndings = (p q : Meaning) (limit : ℕ) (s t : State) (a : RunAnswer) → Shaped p q s → Does p q (run limit) s (Ran a) t → Endings p q limit a t
+RunEndings = (p q : Meaning) (limit : ℕ) (s t : State) (a : RunAnswer) → Shaped p q s → Does p q (run limit) s (Ok (Ran a)) t → Endings p q limit a t
 
 -- a decoding adds to the tally of its line the places at which the line differs before and after, and to no other tally anything
 pub record TallyGrows (view : List ℕ → ℕ → List ℕ) (i : ℕ) (s t : Seen) : Type 0 where
@@ -79,7 +78,7 @@ pub record Numbered (p q : Meaning) (kind : Kind) (st : Standing) (s : State) (n
 
 -- the stuck lines that a pass answers are the number of such records at its end
 abbrev pub StuckCounts : Type 0
-StuckCounts = (p q : Meaning) (kind : Kind) (s t : State) (a : PassAnswer) → Shaped p q s → Does p q (pass kind) s (Passed a) t → Numbered p q kind Stuck t a.stuck
+StuckCounts = (p q : Meaning) (kind : Kind) (s t : State) (a : PassAnswer) → Shaped p q s → Does p q (pass kind) s (Ok (Passed a)) t → Numbered p q kind Stuck t a.stuck
 
 -- every question of a list is answered yes
 abbrev pub AllYes : List Question → Type 0

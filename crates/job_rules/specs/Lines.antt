@@ -1,10 +1,8 @@
 -- The lines of a frame, and what decoding one of them does.
-use Rattle.std.specs.Prelude.{◌≡◌, ℕ, zero, suc, ◌+◌, cond, List, [], ◌∷◌, ◌==◌, slice_index_or, slice_set}
+use Rattle.std.specs.Prelude.{◌≡◌, ℕ, zero, suc, ◌+◌, cond, List, [], ◌∷◌, ◌==◌, slice_index_or, slice_set, Option, Some, None}
 pub use Rattle.codes.specs.Frames.{row, column, Becomes}
 use Rattle.codes.specs.Meaning.{Meaning}
 use Rattle.codes.specs.Answers.{Decodes}
-use Rattle.codes.specs.declared.Decoded.{Decoded}
-use Rattle.codes.specs.declared.Decoded.TheVariants.{Mended, Stuck}
 use Rattle.job_rules.specs.declared.records.Standing.TheVariants.{Sound, Stuck as StandsStuck}
 use Rattle.job_rules.specs.declared.records.Record.{Record}
 use Rattle.job_rules.specs.declared.records.Kind.{Kind}
@@ -22,9 +20,9 @@ code p q Row = p
 code p q Column = q
 
 -- the record of a line after a decoding: sound, and the tally grown by the places changed; or stuck
-abbrev pub decided : Record → Decoded → Record
-decided r (Mended k) = record { standing = Sound; tally = r.tally + k }
-decided r Stuck = record { standing = StandsStuck; tally = r.tally }
+abbrev pub decided : Record → Option ℕ → Record
+decided r (Some k) = record { standing = Sound; tally = r.tally + k }
+decided r None = record { standing = StandsStuck; tally = r.tally }
 
 -- f of what belongs to a place, at each place where two lines differ
 unfoldable pub where_differ : {X : Type 0} → (X → X) → (one two : List ℕ) → List X → List X
@@ -41,7 +39,7 @@ pub record Seen : Type 0 where
 
 -- line i is decoded: it becomes what its code says, its record says so, and the line across each changed place is opened
 pub record Decoding (m : Meaning) (view : List ℕ → ℕ → List ℕ) (lines i : ℕ) (s t : Seen) : Type 0 where
-  pub answer : Decoded
+  pub answer : Option ℕ
   pub line' : List ℕ
   pub decodes : Decodes m (view s.frame i) line' answer
   pub frame : Becomes view lines i line' s.frame t.frame

@@ -1,22 +1,21 @@
 -- What a job promises over every list of calls.
-use Rattle.std.specs.Prelude.{◌≡◌, ℕ, ◌+◌, ◌*◌, ◌%◌, ◌^◌, ◌<◌, List, [], ◌∷◌, map, take, slice_index_or}
+use Rattle.std.specs.Prelude.{◌≡◌, ℕ, ◌+◌, ◌*◌, ◌%◌, ◌^◌, ◌<◌, List, [], ◌∷◌, map, take, Ok, Err, slice_index_or}
 use Rattle.codes.specs.Meaning.{Meaning, SameCode, differ}
 use Rattle.job_rules.specs.declared.records.Standing.TheVariants.{Sound}
 use Rattle.job_rules.specs.declared.records.Kind.{Kind}
-use Rattle.job_rules.specs.declared.answers.Answer.{Answer}
-use Rattle.job_rules.specs.declared.answers.Answer.TheVariants.{Passed, Ran, Redelivered, Refused}
+use Rattle.job_rules.specs.declared.answers.Outcome.TheVariants.{Passed, Ran, Redelivered}
 use Rattle.job_rules.specs.Records.{fresh}
 use Rattle.job_rules.specs.Questions.{Request, number, lines}
 use Rattle.job_rules.specs.Passes.{State, start, records}
-use Rattle.job_rules.specs.Calls.{Step, Performs, final, Summed}
+use Rattle.job_rules.specs.Calls.{Answer, Step, Performs, final, Summed}
 use Rattle.job_rules.specs.Reader.{Reply, refused, changed, opens, ReaderStep, History}
 
 -- what the thorough reader replies where the job gives this answer
 abbrev pub plainly : Answer → Reply
-plainly (Passed a) = changed a.changes
-plainly (Ran a) = changed a.changes
-plainly (Redelivered n) = changed n
-plainly (Refused why) = refused (number why)
+plainly (Ok (Passed a)) = changed a.effort.changes
+plainly (Ok (Ran a)) = changed a.effort.changes
+plainly (Ok (Redelivered n)) = changed n
+plainly (Err why) = refused (number why)
 
 -- The two readers after one call, the job's codes having counted m and n when it was new.
 pub record Agrees (m n : ℕ) (ours : Step) (theirs : ReaderStep) : Type 0 where

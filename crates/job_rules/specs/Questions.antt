@@ -1,5 +1,5 @@
 -- The questions that are put before a call, in their order. The first that is answered no refuses it.
-use Rattle.std.specs.Prelude.{◌≡◌, ℕ, ◌*◌, Bool, cond, ◌&&◌, List, [], ◌∷◌, length, Some, None, Ok, Err, Option, Result, ◌==◌, nat_le, nat_lt}
+use Rattle.std.specs.Prelude.{◌≡◌, ℕ, ◌*◌, Bool, cond, ◌&&◌, List, [], ◌∷◌, length, Some, None, Ok, Err, Option, Result, ◌==◌, nat_le, nat_lt, codes}
 use Rattle.codes.specs.Meaning.{Meaning}
 use Rattle.job_rules.specs.declared.answers.Refusal.{Refusal}
 use Rattle.job_rules.specs.declared.answers.Refusal.TheVariants.{FrameLength, LineNumber, LineLength, PassLimit, CallLimit}
@@ -13,6 +13,14 @@ number LineNumber = 2
 number LineLength = 3
 number PassLimit = 4
 number CallLimit = 5
+
+-- what they print
+abbrev pub sentence : Refusal → List ℕ
+sentence FrameLength = codes "the frame is not as long as the codes ask"
+sentence LineNumber = codes "there is no line of this number"
+sentence LineLength = codes "the line is not as long as its code"
+sentence PassLimit = codes "the limit of passes is not from 1 to 64"
+sentence CallLimit = codes "the job has accepted all the calls that it may"
 
 -- a call with its arguments: a pass over the lines of a kind, a run with its limit, or a row with its new bytes
 pub data Request : Type 0 where

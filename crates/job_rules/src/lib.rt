@@ -7,7 +7,7 @@ mod calls;
 mod laws;
 mod records;
 
-pub use answers::{Answer, Effort, Ending, PassAnswer, Refusal, Report, RunAnswer};
+pub use answers::{Answer, Effort, Ending, Outcome, PassAnswer, Refusal, Report, RunAnswer};
 pub use calls::{Call, Entry};
 pub use laws::{
     changes_are_tallies, counts_stay_low, first_no_refuses, first_row_pass_restores,

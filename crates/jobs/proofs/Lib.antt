@@ -1,5 +1,4 @@
 pub mod Passing
 pub mod Running
 pub mod Delivering
-pub mod Reading
 pub mod Performing

@@ -6,11 +6,10 @@ use Rattle.job_rules.specs.declared.records.Kind.TheVariants.{Row}
 use Rattle.job_rules.specs.declared.calls.Call.{Call}
 use Rattle.job_rules.specs.declared.calls.Call.TheVariants.{Pass}
 use Rattle.job_rules.specs.declared.calls.Entry.{Entry}
-use Rattle.job_rules.specs.declared.answers.Answer.{Answer}
 use Rattle.job_rules.specs.Questions.{Request}
 use Rattle.job_rules.specs.Lists.{request_of}
 use Rattle.job_rules.specs.Passes.{State}
-use Rattle.job_rules.specs.Calls.{Does, Step, Performs, final}
+use Rattle.job_rules.specs.Calls.{Answer, Does, Step, Performs, final}
 use Rattle.job_rules.specs.Promise.{Gives}
 
 -- an entry that stands for none

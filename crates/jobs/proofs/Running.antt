@@ -112,7 +112,7 @@ pub ends_limit : (s : State) → (standing Open s ≡ 0 → ⊥) → Limit ≡ e
 ends_limit s o = let a = ne_eqb _ _ o in rw a
 
 abbrev answer_of : Ending → Work → RunAnswer
-answer_of e w = record { ending = e; passes = w.passes; decodings = w.decodings; changes = w.changes }
+answer_of e w = record { ending = e; passes = w.passes; effort = record { decodings = w.decodings; changes = w.changes } }
 
 pub answered : (s : State) (w : Work) (e : Ending) → e ≡ ending s → answer_of e w ≡ run_answer w s
 answered s w e same = ap (λ x. answer_of x w) same

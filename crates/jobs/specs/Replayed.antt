@@ -2,7 +2,7 @@
 use Rattle.std.specs.Prelude.{◌≡◌, ℕ, List, map, Some}
 use Rattle.codes.specs.declared.LineCode.{Ghosts}
 use Rattle.job_rules.specs.declared.calls.Entry.{Entry}
-use Rattle.job_rules.specs.declared.answers.Answer.{Answer}
+use Rattle.job_rules.specs.Calls.{Answer}
 use Rattle.job_rules.specs.Lists.{request_of}
 use Rattle.job_rules.specs.Promise.{Promise}
 use Rattle.jobs.specs.declared.job.Job.{Job}

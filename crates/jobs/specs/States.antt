@@ -1,5 +1,5 @@
 -- From what the program holds to what the rules speak of.
-use Rattle.std.specs.Prelude.{◌≡◌, ℕ, ◌≤◌, List, take, Ok, Err, Result}
+use Rattle.std.specs.Prelude.{◌≡◌, ℕ, ◌≤◌, List, take, true, false, Ok, Err, Result}
 use Rattle.codes.specs.Meaning.{Meaning}
 use Rattle.codes.specs.declared.LineCode.{Ghosts}
 use Rattle.job_rules.specs.declared.records.Kind.{Kind}
@@ -8,12 +8,11 @@ use Rattle.job_rules.specs.declared.answers.Effort.{Effort}
 use Rattle.job_rules.specs.declared.answers.PassAnswer.{PassAnswer}
 use Rattle.job_rules.specs.declared.answers.RunAnswer.{RunAnswer}
 use Rattle.job_rules.specs.declared.answers.Refusal.{Refusal}
-use Rattle.job_rules.specs.declared.answers.Answer.{Answer}
-use Rattle.job_rules.specs.declared.answers.Answer.TheVariants.{Passed, Ran, Redelivered, Refused}
+use Rattle.job_rules.specs.declared.answers.Outcome.TheVariants.{Passed, Ran, Redelivered}
 use Rattle.job_rules.specs.Records.{on}
-use Rattle.job_rules.specs.Questions.{Request}
+use Rattle.job_rules.specs.Questions.{Request, Question}
 use Rattle.job_rules.specs.Passes.{State, Pass}
-use Rattle.job_rules.specs.Calls.{Work, Runs, run_answer, Does}
+use Rattle.job_rules.specs.Calls.{Answer, Work, Runs, run_answer, Does}
 use Rattle.job_rules.specs.Bounds.{most_lines, most_changes}
 use Rattle.jobs.specs.declared.job.Job.{Job}
 
@@ -36,18 +35,23 @@ state f g job frame = record {
   column_count = g.count job.column_code;
 }
 
+-- one question is answered yes, or with its refusal
+abbrev pub Told : Question → Result (Unit {0}) Refusal → Type 0
+Told x (Ok done) = x.holds ≡ true
+Told x (Err why) = (x.holds ≡ false) × (why ≡ x.otherwise)
+
 -- the answers of the four calls, as answers to a call of a list
 abbrev pub answer_of_pass : Result PassAnswer Refusal → Answer
-answer_of_pass (Ok a) = Passed a
-answer_of_pass (Err why) = Refused why
+answer_of_pass (Ok a) = Ok (Passed a)
+answer_of_pass (Err why) = Err why
 
 abbrev pub answer_of_run : Result RunAnswer Refusal → Answer
-answer_of_run (Ok a) = Ran a
-answer_of_run (Err why) = Refused why
+answer_of_run (Ok a) = Ok (Ran a)
+answer_of_run (Err why) = Err why
 
 abbrev pub answer_of_delivery : Result ℕ Refusal → Answer
-answer_of_delivery (Ok n) = Redelivered n
-answer_of_delivery (Err why) = Refused why
+answer_of_delivery (Ok n) = Ok (Redelivered n)
+answer_of_delivery (Err why) = Err why
 
 -- a call of a job: its codes mean what they meant, and all else is as the rules say
 pub record Called {P Q : Type 0} (f : Ghosts P) (g : Ghosts Q) (job job' : Job P Q f g) (frame frame' : List ℕ) (request : Request) (answer : Answer) : Type 0 where

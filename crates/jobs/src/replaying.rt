@@ -5,29 +5,18 @@ ghost use Rattle.jobs.specs.Replayed.{Answered, Replayed};
 
 use crate::job::Job;
 use codes::LineCode;
-use job_rules::{Answer, Call, Entry, Kind};
+use job_rules::{Answer, Call, Entry, Outcome};
 
 // Makes one call.
 fn answer<P: LineCode, Q: LineCode>(job: &mut Job<P, Q>, frame: &mut [u8], call: &Call) -> Answer
     ensures { Called P.LineCode Q.LineCode job.old job.new frame.old frame.new (request_of call.now) result }
 {
     match call {
-        Call::Pass(Kind::Row) => match job.row_pass(frame) {
-            Ok(passed) => Answer::Passed(passed),
-            Err(why) => Answer::Refused(why),
-        },
-        Call::Pass(Kind::Column) => match job.column_pass(frame) {
-            Ok(passed) => Answer::Passed(passed),
-            Err(why) => Answer::Refused(why),
-        },
-        Call::Run { limit } => match job.run(frame, *limit) {
-            Ok(ran) => Answer::Ran(ran),
-            Err(why) => Answer::Refused(why),
-        },
-        Call::Redeliver { row, bytes } => match job.redeliver(frame, *row, bytes) {
-            Ok(changed) => Answer::Redelivered(changed),
-            Err(why) => Answer::Refused(why),
-        },
+        Call::Pass(kind) => job.pass(frame, *kind).map(Outcome::Passed),
+        Call::Run { limit } => job.run(frame, *limit).map(Outcome::Ran),
+        Call::Redeliver { row, bytes } => {
+            job.redeliver(frame, *row, bytes).map(Outcome::Redelivered)
+        }
     }
 }
 
@@ -49,8 +38,8 @@ pub fn replay<P: LineCode, Q: LineCode>(
     ensures { Replayed P.LineCode Q.LineCode row_code column_code frame.old frame.new list.old list.new result }
 {
     let mut job = Job::new(row_code, column_code);
-    for k in 0..list.len() {
-        fill(&mut job, frame, &mut list[k]);
+    for entry in list.iter_mut() {
+        fill(&mut job, frame, entry);
     }
     job
 }

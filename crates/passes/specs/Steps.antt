@@ -1,9 +1,7 @@
 -- What the inner functions of a pass do to one line and its record.
-use Rattle.std.specs.Prelude.{◌≡◌, ℕ, ◌+◌, ◌%◌, ◌^◌, cond, List, get_or, ◌==◌, slice_index_or, slice_set}
+use Rattle.std.specs.Prelude.{◌≡◌, ℕ, ◌+◌, ◌%◌, ◌^◌, cond, List, get_or, ◌==◌, slice_index_or, slice_set, Option}
 use Rattle.codes.specs.Meaning.{Meaning, differ}
 use Rattle.codes.specs.Answers.{Decodes}
-use Rattle.codes.specs.declared.Decoded.{Decoded}
-use Rattle.codes.specs.declared.LineCode.{Ghosts}
 use Rattle.job_rules.specs.declared.records.Standing.{Standing}
 use Rattle.job_rules.specs.declared.records.Standing.TheVariants.{Open, Sound, Stuck}
 use Rattle.job_rules.specs.declared.records.Record.{Record}
@@ -11,13 +9,14 @@ use Rattle.job_rules.specs.declared.records.Kind.{Kind}
 use Rattle.job_rules.specs.declared.records.Lines.{Lines}
 use Rattle.job_rules.specs.declared.answers.Effort.{Effort}
 use Rattle.job_rules.specs.Records.{fresh, opened, on, crossing}
-use Rattle.job_rules.specs.Lines.{decided, where_differ, InOrder}
+use Rattle.job_rules.specs.declared.records.Kind.TheVariants.{Row, Column}
+use Rattle.job_rules.specs.Lines.{row, column, decided, where_differ, InOrder}
 use Rattle.job_rules.specs.Passes.{Progress, turn}
 use Rattle.job_rules.proofs.Tallies.{Keeping}
 
 -- an open line is decoded: n and n' are the code's count
 pub record DecodesLine (m : Meaning) (n n' : ℕ) (r r' : Record) (one two : List ℕ) (e : Effort) : Type 0 where
-  pub answer : Decoded
+  pub answer : Option ℕ
   pub decodes : Decodes m one two answer
   pub mark : r' ≡ decided r answer
   pub once : e.decodings ≡ 1
@@ -38,10 +37,6 @@ By Open m n n' r r' one two e = DecodesLine m n n' r r' one two e
 By Sound m n n' r r' one two e = SkipsLine n n' r r' one two e
 By Stuck m n n' r r' one two e = SkipsLine n n' r r' one two e
 
--- a pass comes to a line, with its code before and after
-abbrev pub Visits : {P : Type 0} → Ghosts P → (code code' : P) (r r' : Record) (one two : List ℕ) → Effort → Type 0
-Visits g code code' r r' one two e = By r.standing (g.meaning code) (g.count code) (g.count code') r r' one two e
-
 -- a pass comes to line i of a kind: its record is changed, and what crosses its changed places is opened
 pub record Visited (m : Meaning) (n n' : ℕ) (kind : Kind) (i : ℕ) (l l' : Lines) (one two : List ℕ) (e : Effort) : Type 0 where
   pub after : Record
@@ -52,6 +47,11 @@ pub record Visited (m : Meaning) (n n' : ℕ) (kind : Kind) (i : ℕ) (l l' : Li
 -- the table after n places of line i changed: the line is opened if there is one
 abbrev pub opened_if : (n i : ℕ) → List Record → List Record
 opened_if n i rs = slice_set rs i (cond (n == 0) (slice_index_or rs i fresh) (opened (slice_index_or rs i fresh)))
+
+-- the lines of a kind in a frame: n of them, each of this size
+abbrev pub lines_of : Kind → (size n : ℕ) → List ℕ → ℕ → List ℕ
+lines_of Row size n = row size
+lines_of Column size n = column n size
 
 -- what a pass over the lines of a kind sees of these tables, all their room included
 abbrev pub sofar : Kind → Lines → (frame : List ℕ) (decodings changes count : ℕ) → Progress

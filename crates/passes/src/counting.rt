@@ -1,56 +1,35 @@
 // Counts over lines and their records.
-ghost use Rattle.std.specs.Prelude.{◌≡◌, ℕ, ◌+◌, ◌^◌, ◌<◌, ◌≤◌, length, take};
+ghost use Rattle.std.specs.Prelude.{◌≡◌, ◌^◌, ◌<◌, ◌≤◌, not, length, count_by, ◌==◌};
+ghost use Rattle.std.specs.List.{zip};
 ghost use Rattle.codes.specs.Meaning.{differ};
-ghost use Rattle.job_rules.specs.Records.{on, is_same_standing, how_many, tallies};
+ghost use Rattle.job_rules.specs.Records.{how_many, tallies};
 
-use job_rules::{Kind, Lines, Standing};
+use job_rules::{Record, Standing};
 
-// Are two standings the same?
-fn same_standing(one: Standing, two: Standing) -> bool
-    ensures { result ≡ is_same_standing one two }
+// How many of the records have this standing.
+pub fn count_standing(records: &[Record], standing: Standing) -> u64
+    ensures count { result ≡ how_many standing records.now }
+    ensures few { result ≤ length records.now }
 {
-    match one {
-        Standing::Open => match two {
-            Standing::Open => true,
-            Standing::Sound | Standing::Stuck => false,
-        },
-        Standing::Sound => match two {
-            Standing::Sound => true,
-            Standing::Open | Standing::Stuck => false,
-        },
-        Standing::Stuck => match two {
-            Standing::Stuck => true,
-            Standing::Open | Standing::Sound => false,
-        },
-    }
+    records
+        .iter()
+        .filter(|record| record.standing == standing)
+        .count() as u64
 }
 
-// How many of the first n lines of a kind have this standing.
-pub fn count_standing(lines: &Lines, kind: Kind, standing: Standing, n: usize) -> u64
-    ensures count { result ≡ how_many standing (take n (on kind lines.now)) }
-    ensures few { result ≤ 255 }
-    ensures room { length (on kind lines.now) ≡ 255 }
+// The sum of the tallies of the records.
+pub fn sum_tallies(records: &[Record]) -> u64
+    requires { tallies records.now < 2 ^ 63 }
+    ensures { result ≡ tallies records.now }
 {
-    let mut found = 0u64;
-    for i in 0..n.min(lines.room(kind)) {
-        if same_standing(standing, lines.at(kind, i).standing) {
-            found += 1;
-        }
-    }
-    found
+    records.iter().map(|record| record.tally).sum()
 }
 
-// The sum of the tallies of the first n lines of a kind.
-pub fn sum_tallies(lines: &Lines, kind: Kind, n: usize) -> u64
-    requires { tallies (on kind lines.now) < 2 ^ 63 }
-    ensures sum { result ≡ tallies (take n (on kind lines.now)) }
-    ensures low { result ≤ tallies (on kind lines.now) }
+// How many pairs of bytes at one place are unlike.
+fn unlike_pairs(one: &[u8], two: &[u8]) -> usize
+    ensures { result ≡ count_by (λ p. not (p.0 == p.1)) (zip one.now two.now) }
 {
-    let mut sum = 0u64;
-    for i in 0..n.min(lines.room(kind)) {
-        sum += lines.at(kind, i).tally;
-    }
-    sum
+    one.iter().zip(two).filter(|(a, b)| a != b).count()
 }
 
 // At how many places two lines, or two frames, of one length differ.
@@ -58,11 +37,5 @@ pub fn differences(one: &[u8], two: &[u8]) -> u64
     requires { length one.now ≡ length two.now }
     ensures { result ≡ differ one.now two.now }
 {
-    let mut n = 0u64;
-    for i in 0..one.len() {
-        if one[i] != two[i] {
-            n += 1;
-        }
-    }
-    n
+    unlike_pairs(one, two) as u64
 }

@@ -3,13 +3,11 @@
 
 #![tactic(auto)]
 
-mod columns;
 mod counting;
 mod lines;
+mod pass;
 mod redelivery;
-mod rows;
 
-pub use columns::pass_columns;
 pub use counting::{count_standing, differences, sum_tallies};
+pub use pass::pass_over;
 pub use redelivery::put_row;
-pub use rows::pass_rows;

@@ -4,9 +4,8 @@ ghost use Rattle.job_rules.specs.Questions.{redeliver};
 ghost use Rattle.jobs.specs.States.{Called, answer_of_delivery};
 
 use crate::job::Job;
-use crate::job::making::MOST_CALLS;
 use codes::LineCode;
-use job_rules::Refusal;
+use job_rules::{Kind, Refusal};
 use passes::put_row;
 
 impl<P: LineCode, Q: LineCode> Job<P, Q> {
@@ -15,21 +14,14 @@ impl<P: LineCode, Q: LineCode> Job<P, Q> {
     pub fn redeliver(&mut self, frame: &mut [u8], row: usize, bytes: &[u8]) -> Result<u64, Refusal>
         ensures { Called P.LineCode Q.LineCode self.old self.new frame.old frame.new (redeliver row bytes.now) (answer_of_delivery result) }
     {
-        let width = self.row_code.length() as usize;
-        let height = self.column_code.length() as usize;
-        if !self.fits(frame) {
-            return Err(Refusal::FrameLength);
-        }
-        if row >= height {
-            return Err(Refusal::LineNumber);
-        }
-        if bytes.len() != width {
+        self.check_frame(frame)?;
+        self.check_line(Kind::Row, row)?;
+        if bytes.len() != self.number_of(Kind::Column) {
             return Err(Refusal::LineLength);
         }
-        if self.counts.calls >= MOST_CALLS {
-            return Err(Refusal::CallLimit);
-        }
+        self.check_calls()?;
         self.counts.calls += 1;
+        let height = self.number_of(Kind::Row);
         let changed = put_row(&mut self.lines, frame, row, bytes, height);
         self.counts.redelivered += changed;
         Ok(changed)

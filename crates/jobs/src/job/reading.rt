@@ -2,7 +2,7 @@
 ghost use Rattle.std.specs.Prelude.{◌≡◌, ℕ, ◌^◌, ◌<◌, true, List, [], ◌∷◌, slice_index_or};
 ghost use Rattle.codes.specs.Meaning.{differ};
 ghost use Rattle.job_rules.specs.Records.{fresh};
-ghost use Rattle.job_rules.specs.Questions.{Asked, frame_fits, line_exists, lines};
+ghost use Rattle.job_rules.specs.Questions.{Asked, frame_fits, line_exists};
 ghost use Rattle.job_rules.specs.Lines.{row as row_of};
 ghost use Rattle.job_rules.specs.Passes.{records};
 ghost use Rattle.job_rules.specs.Calls.{report as report_of};
@@ -28,20 +28,8 @@ impl<P: LineCode, Q: LineCode> Job<P, Q> {
     pub fn record(&self, kind: Kind, i: usize) -> Result<Record, Refusal>
         ensures { Asked (line_exists (row_meaning P.LineCode self.now) (column_meaning Q.LineCode self.now) kind i ∷ []) (λ x. x ≡ slice_index_or (records kind (state P.LineCode Q.LineCode self.now [])) i fresh) result }
     {
-        if i >= self.number_of(kind) {
-            return Err(Refusal::LineNumber);
-        }
+        self.check_line(kind, i)?;
         Ok(self.lines.at(kind, i))
-    }
-
-    // How many lines there are of a kind.
-    fn number_of(&self, kind: Kind) -> usize
-        ensures { result ≡ lines (row_meaning P.LineCode self.now) (column_meaning Q.LineCode self.now) kind }
-    {
-        match kind {
-            Kind::Row => self.column_code.length() as usize,
-            Kind::Column => self.row_code.length() as usize,
-        }
     }
 
     // Passes, decodings and redelivered places since the job was new, and the sum of all tallies.
@@ -49,10 +37,8 @@ impl<P: LineCode, Q: LineCode> Job<P, Q> {
         ensures value { (frame : List ℕ) → result ≡ report_of (state P.LineCode Q.LineCode self.now frame) }
         ensures low { Low result }
     {
-        let width = self.row_code.length() as usize;
-        let height = self.column_code.length() as usize;
-        let changes = sum_tallies(&self.lines, Kind::Row, height)
-            + sum_tallies(&self.lines, Kind::Column, width);
+        let changes = sum_tallies(self.records(Kind::Row))
+            + sum_tallies(self.records(Kind::Column));
         Report {
             passes: self.counts.passes,
             decodings: self.counts.decodings,
@@ -65,14 +51,9 @@ impl<P: LineCode, Q: LineCode> Job<P, Q> {
     pub fn row<'a>(&self, frame: &'a [u8], i: usize) -> Result<&'a [u8], Refusal>
         ensures { Asked (frame_fits (row_meaning P.LineCode self.now) (column_meaning Q.LineCode self.now) frame.now ∷ line_exists (row_meaning P.LineCode self.now) (column_meaning Q.LineCode self.now) Kind.Row i ∷ []) (λ x. x.now ≡ row_of (row_meaning P.LineCode self.now).size frame.now i) result }
     {
-        let width = self.row_code.length() as usize;
-        let height = self.column_code.length() as usize;
-        if !self.fits(frame) {
-            return Err(Refusal::FrameLength);
-        }
-        if i >= height {
-            return Err(Refusal::LineNumber);
-        }
+        self.check_frame(frame)?;
+        self.check_line(Kind::Row, i)?;
+        let width = self.number_of(Kind::Column);
         let at = i * width;
         Ok(&frame[at..at + width])
     }
@@ -82,12 +63,8 @@ impl<P: LineCode, Q: LineCode> Job<P, Q> {
         ensures count { Asked (frame_fits (row_meaning P.LineCode self.now) (column_meaning Q.LineCode self.now) one.now ∷ frame_fits (row_meaning P.LineCode self.now) (column_meaning Q.LineCode self.now) two.now ∷ []) (λ n. n ≡ differ one.now two.now) result }
         ensures equal { Compared (row_meaning P.LineCode self.now) (column_meaning Q.LineCode self.now) one.now two.now result }
     {
-        if !self.fits(one) {
-            return Err(Refusal::FrameLength);
-        }
-        if !self.fits(two) {
-            return Err(Refusal::FrameLength);
-        }
+        self.check_frame(one)?;
+        self.check_frame(two)?;
         Ok(differences(one, two))
     }
 }

@@ -4,9 +4,8 @@ ghost use Rattle.job_rules.specs.Questions.{run, highest_limit};
 ghost use Rattle.jobs.specs.States.{row_meaning, column_meaning, RunMade, Called, answer_of_run};
 
 use crate::job::Job;
-use crate::job::making::MOST_CALLS;
 use codes::LineCode;
-use job_rules::{Ending, Kind, Refusal, RunAnswer, Standing};
+use job_rules::{Effort, Ending, Kind, Refusal, RunAnswer, Standing};
 
 // The highest limit of a run.
 const HIGHEST_LIMIT: u64 = 64;
@@ -16,15 +15,11 @@ impl<P: LineCode, Q: LineCode> Job<P, Q> {
     pub fn run(&mut self, frame: &mut [u8], limit: u64) -> Result<RunAnswer, Refusal>
         ensures { Called P.LineCode Q.LineCode self.old self.new frame.old frame.new (run limit) (answer_of_run result) }
     {
-        if !self.fits(frame) {
-            return Err(Refusal::FrameLength);
-        }
-        if limit < 1 || limit > HIGHEST_LIMIT {
+        self.check_frame(frame)?;
+        if !(1..=HIGHEST_LIMIT).contains(&limit) {
             return Err(Refusal::PassLimit);
         }
-        if self.counts.calls >= MOST_CALLS {
-            return Err(Refusal::CallLimit);
-        }
+        self.check_calls()?;
         self.counts.calls += 1;
         Ok(self.run_passes(frame, limit))
     }
@@ -36,10 +31,10 @@ impl<P: LineCode, Q: LineCode> Job<P, Q> {
         requires room { self.old.counts.passes + limit ≤ highest_limit * self.old.counts.calls }
         ensures { RunMade P.LineCode Q.LineCode self.old self.new frame.old frame.new limit result }
     {
+        // A loop that yields its ending by a break, as runs are ruled here: a `for` would have to work it out at each of two exits.
         let mut kind = Kind::Row;
         let mut passes = 0u64;
-        let mut decodings = 0u64;
-        let mut changes = 0u64;
+        let mut effort = Effort::default();
         let ending = loop {
             if self.count(Standing::Open) == 0 {
                 if self.count(Standing::Stuck) == 0 {
@@ -50,17 +45,16 @@ impl<P: LineCode, Q: LineCode> Job<P, Q> {
             if passes == limit {
                 break Ending::Limit;
             }
-            let effort = self.pass(frame, kind);
+            let made = self.decode_open(frame, kind);
             kind = kind.other();
             passes += 1;
-            decodings += effort.decodings;
-            changes += effort.changes;
+            effort.decodings += made.decodings;
+            effort.changes += made.changes;
         };
         RunAnswer {
             ending,
             passes,
-            decodings,
-            changes,
+            effort,
         }
     }
 }

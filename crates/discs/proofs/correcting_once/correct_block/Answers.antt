@@ -1,12 +1,8 @@
-use Rattle.discs.proofs.Once.{run_held, promise_of}
+use Rattle.discs.proofs.Once.{ran_once}
 use Rattle.discs.proofs.correcting_once.correct_block.Goals as goal
 
-pub run_answer-run-requires : goal.run_answer-run-requires
-run_answer-run-requires g c = run_held _ _ _ _ _ _ _ _ _ _ c.replay-job.ensures c.one_run-list.ensures _
-
 pub returns : goal.returns
-returns g c = record {
-  rows = c.replay-job.ensures.rows;
-  columns = c.replay-job.ensures.columns;
-  promise = promise_of _ _ _ _ _ _ _ _ _ _ c.replay-job.ensures c.one_run-list.ensures _ c.run_answer-run.result c.run_answer-run.ensures;
-}
+returns g c =
+    let made = c.new-job.ensures in
+    ran_once g.P.LineCode g.Q.LineCode c.args.rows c.args.columns _ c.args.frame.now c.run-run.new.frame c.new-job.result c.run-run.new.self c.run-run.result
+    (g.met.P.LineCode.lawful c.args.rows) (g.met.Q.LineCode.lawful c.args.columns) made.row_code made.column_code (made.new c.args.frame.now) c.run-run.ensures

@@ -1,7 +1,5 @@
-use Rattle.std.proofs.Common.{◌≡◌, length, take, refl, ap, ◌∙◌, arith}
-use Rattle.std.proofs.lemmas.List.{take_all}
-use Rattle.job_rules.specs.Records.{opened, on, crossing}
-use Rattle.job_rules.specs.Lines.{where_differ}
+use Rattle.std.proofs.Common.{refl, ap, ◌∙◌, arith}
+use Rattle.job_rules.specs.Records.{on, crossing}
 use Rattle.passes.proofs.Opening.{none_opened, opened_more, opened_same}
 use Rattle.passes.proofs.lines.open_changed.Goals as goal
 
@@ -26,13 +24,3 @@ loop-k-preserved c =
         ap (on (crossing kind)) w.lines-is ∙ c.loop-k.invariant.1,
       )
     ]
-
-pub returns : goal.returns
-returns c =
-    let ys = c.args.new.now in
-    let all : c.loop-k.k ≡ length ys = omega arith in
-    record {
-      cross = c.loop-k.invariant.0 ∙ ap (λ x. where_differ opened (take x c.args.old.now) (take x ys) (on c.args.kind c.args.lines.now)) all
-          ∙ ap (λ x. where_differ opened (take (length ys) c.args.old.now) x (on c.args.kind c.args.lines.now)) (take_all (length ys) ys (omega arith));
-      other = c.loop-k.invariant.1;
-    }

@@ -1,21 +1,13 @@
-use Rattle.std.proofs.Common.{◌≡◌, length, take, ap, ◌∙◌}
-use Rattle.passes.proofs.Visiting.{visited, by_few, by_low}
+use Rattle.std.proofs.Common.{◌≡◌, ap, ◌∙◌}
+use Rattle.job_rules.specs.declared.records.Standing.TheVariants.{Open}
+use Rattle.passes.proofs.Visiting.{skipped, few_changed}
 use Rattle.passes.proofs.lines.visit_line.Goals as goal
 
-pub returns : goal.returns
-returns g c =
-    let m = g.P.LineCode.meaning c.args.code.now in
-    let one = c.args.line.now in
-    let two = c.decode_open-effort.new.line in
-    let r = c.at-record.result in
-    let r' = c.decode_open-effort.new.record in
-    let by = c.decode_open-effort.ensures.visit in
-    let kept : take (length two) c.keep.new.old ≡ one = ap (λ x. take x c.keep.new.old) c.decode_open-effort.auto.line ∙ c.keep.ensures in
-    record {
-      visited = visited m _ _ c.args.kind c.other.result c.args.i c.args.lines.now c.put.new.self c.open_changed.new.lines r r' _ one two c.decode_open-effort.result
-          c.other.ensures c.at-record.ensures.value kept by c.put.ensures.here c.put.ensures.other c.open_changed.ensures.cross c.open_changed.ensures.other;
-      same = c.decode_open-effort.ensures.same;
-      table = c.at-record.ensures.room;
-      few = by_few m _ _ r r' one two c.decode_open-effort.result r.standing by;
-      low = by_low m _ _ r r' one two c.decode_open-effort.result r.standing (g.met.P.LineCode.lawful c.args.code.now) by;
-    }
+pub returns-then-ne-clause-visited : goal.returns-then-ne-clause-visited
+returns-then-ne-clause-visited g c =
+    let value = c.at-record.ensures.value in
+    let other : c.at-record.result.standing ≡ Open → ⊥ = λ e. let f = rw e at c.ne.ensures in cc in
+    skipped (g.P.LineCode.meaning c.args.code.now) _ c.args.kind c.args.i c.args.lines.now c.args.line.now c.default.result c.default.ensures.0 c.default.ensures.1 (λ e. other (ap (λ x. x.standing) value ∙ e))
+
+pub returns-clause-low : goal.returns-clause-low
+returns-clause-low g c = few_changed (g.P.LineCode.meaning c.args.code.now) _ _ _ _ _ _ _ (g.met.P.LineCode.lawful c.args.code.now) c.decode_line-effort.ensures.decodes
