@@ -1,5 +1,5 @@
 -- What coding a frame means. p is the row code and q the column code; kr and kc are the columns and rows of the message.
-use Rattle.std.specs.Prelude.{◌≡◌, ℕ, ◌*◌, ◌<◌, List, length, Ok, Err, Result, ◌≢◌}
+use Rattle.std.specs.Prelude.{◌≡◌, ℕ, ◌*◌, ◌<◌, List, length, Ok, Err, Result, ◌≢◌, codes}
 use Rattle.codes.specs.Meaning.{Meaning, Word}
 use Rattle.codes.specs.Frames.{row, column}
 use Rattle.coding.specs.Coding.{SameMessage}
@@ -10,6 +10,11 @@ use Rattle.frames.specs.declared.Refusal.TheVariants.{FrameLength, MessageLength
 abbrev pub number : Refusal → ℕ
 number FrameLength = 1
 number MessageLength = 10
+
+-- what they print
+abbrev pub sentence : Refusal → List ℕ
+sentence FrameLength = codes "the frame is not as long as its rows and columns ask"
+sentence MessageLength = codes "the message does not fill the upper left of the frame"
 
 -- the message stands in the upper left of a frame, and every row and every column is a codeword
 pub record Carries (p q : Meaning) (kr kc : ℕ) (message frame : List ℕ) : Type 0 where

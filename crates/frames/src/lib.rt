@@ -2,54 +2,57 @@
 
 #![tactic(auto)]
 
-ghost use Rattle.std.specs.Prelude.{◌≡◌, ℕ, ◌*◌, ◌<◌, length};
+ghost use Rattle.std.specs.Prelude.{◌≡◌, ℕ, ◌*◌, ◌<◌, length, Some};
 ghost use Rattle.fields.specs.Binary.{disc};
 ghost use Rattle.codes.specs.Meaning.{Word};
 ghost use Rattle.codes.specs.Frames.{row, column, Becomes};
 ghost use Rattle.reed_solomon.specs.Lines.{code_of};
 ghost use Rattle.coding.specs.Coding.{SameMessage};
-ghost use Rattle.frames.specs.Carrying.{number, Coding};
+ghost use Rattle.frames.specs.Carrying.{number, sentence, Coding};
 ghost use Rattle.frames.specs.Theorems.{RowsFollow};
 
 use codes::{put_column, take_column};
 use coding::Coder;
 use fields::DiscField;
+use std::error::Error;
+use std::fmt;
 
-// What coding a frame refuses.
-#[derive(Clone, Copy)]
+// What coding a frame refuses, each with its number.
+#[derive(Clone, Copy, PartialEq, Eq, Debug)]
 pub enum Refusal {
     // The frame is not as long as its rows and columns ask.
-    FrameLength,
+    FrameLength = 1,
     // The message does not fill the upper left.
-    MessageLength,
+    MessageLength = 10,
 }
 
-impl Refusal {
-    // The refusal's number.
-    pub fn number(&self) -> u8
-        ensures { result ≡ number self.now }
-    {
-        match self {
-            Refusal::FrameLength => 1,
-            Refusal::MessageLength => 10,
-        }
+// Each crate converts its own enum: one `impl` for all of them would be of a foreign trait for a foreign type.
+impl From<Refusal> for u8 {
+    ghost from_gives = { λ why n. n ≡ number why };
+
+    fn from(why: Refusal) -> u8 {
+        why as u8
     }
 }
+
+// By hand, so that its text is stated.
+impl fmt::Display for Refusal {
+    ghost output = { λ why. Some (sentence why) };
+
+    fn fmt<W: fmt::Write>(&self, f: &mut fmt::Formatter<W>) -> fmt::Result {
+        f.write_str(match self {
+            Refusal::FrameLength => "the frame is not as long as its rows and columns ask",
+            Refusal::MessageLength => "the message does not fill the upper left of the frame",
+        })
+    }
+}
+
+impl Error for Refusal {}
 
 // In a frame whose columns are all codewords, all rows are, once the rows of the message are.
 pub fn rows_follow()
     ensures { RowsFollow }
 {}
-
-// Copies the message's part to the front of a row.
-fn copy_head(line: &mut [u8], part: &[u8])
-    requires { length part.now < length line.old }
-    ensures { SameMessage (length part.now) line.new part.now }
-{
-    for k in 0..part.len() {
-        line[k] = part[k];
-    }
-}
 
 // A row becomes the codeword with this part of the message.
 fn code_row<F: DiscField>(coder: &Coder<F>, line: &mut [u8], part: &[u8])
@@ -58,8 +61,8 @@ fn code_row<F: DiscField>(coder: &Coder<F>, line: &mut [u8], part: &[u8])
     ensures word { Word (code_of disc coder.now.numbers) line.new }
     ensures head { SameMessage (length part.now) line.new part.now }
 {
-    copy_head(line, part);
-    let _ = coder.code(line);
+    line[..part.len()].copy_from_slice(part);
+    coder.code(line).unwrap();
 }
 
 // The first rows of a frame become the codewords with the rows of the message.
@@ -79,6 +82,7 @@ fn code_rows<F: DiscField>(
 {
     let width = coder.numbers.length as usize;
     let part = coder.numbers.dimension as usize;
+    // By number: row i of the frame goes with part i of the message, and of chunks that are written nothing is known afterwards.
     for i in 0..rows {
         let at = i * width;
         let from = i * part;
@@ -99,34 +103,28 @@ fn code_column<F: DiscField>(
     j: usize,
 )
     requires long { length line.old ≡ coder.now.numbers.length }
-    requires whole { length frame.old ≡ length line.old * width }
+    requires whole { length frame.old ≡ coder.now.numbers.length * width }
     requires within { j < width }
-    ensures becomes { Becomes (column width (length line.old)) width j line.new frame.old frame.new }
+    ensures becomes { Becomes (column width coder.now.numbers.length) width j line.new frame.old frame.new }
     ensures word { Word (code_of disc coder.now.numbers) line.new }
-    ensures head { SameMessage coder.now.numbers.dimension line.new (column width (length line.old) frame.old j) }
+    ensures head { SameMessage coder.now.numbers.dimension line.new (column width coder.now.numbers.length frame.old j) }
 {
-    let _ = take_column(line, frame, width, j);
-    let _ = coder.code(line);
-    let _ = put_column(frame, line, width, j);
+    take_column(line, frame, width, j).unwrap();
+    coder.code(line).unwrap();
+    put_column(frame, line, width, j).unwrap();
 }
 
-// Every column becomes the codeword with its first symbols; `line` has room for one.
-fn code_columns<F: DiscField>(coder: &Coder<F>, frame: &mut [u8], line: &mut [u8], width: usize)
-    requires long { length line.old ≡ coder.now.numbers.length }
-    requires whole { length frame.old ≡ length line.old * width }
-    ensures words { (j : ℕ) → j < width → Word (code_of disc coder.now.numbers) (column width (length line.old) frame.new j) }
-    ensures heads { (j : ℕ) → j < width → SameMessage coder.now.numbers.dimension (column width (length line.old) frame.new j) (column width (length line.old) frame.old j) }
+// Every column becomes the codeword with its first symbols.
+fn code_columns<F: DiscField>(coder: &Coder<F>, frame: &mut [u8], width: usize)
+    requires { length frame.old ≡ coder.now.numbers.length * width }
+    ensures words { (j : ℕ) → j < width → Word (code_of disc coder.now.numbers) (column width coder.now.numbers.length frame.new j) }
+    ensures heads { (j : ℕ) → j < width → SameMessage coder.now.numbers.dimension (column width coder.now.numbers.length frame.new j) (column width coder.now.numbers.length frame.old j) }
 {
+    let mut room = [0u8; 255];
+    let line = &mut room[..coder.numbers.length as usize];
     for j in 0..width {
         code_column(coder, frame, line, width, j);
     }
-}
-
-// Room for a column.
-fn column_room() -> [u8; 255]
-    ensures { length result ≡ 255 }
-{
-    [0; 255]
 }
 
 // Codes frames whose rows and columns are codewords of two codes over the disc field, each in either of its makes.
@@ -160,8 +158,7 @@ impl<R: DiscField, C: DiscField> FrameCoder<R, C> {
             return Err(Refusal::MessageLength);
         }
         code_rows(&self.rows, frame, message, height, rows);
-        let mut room = column_room();
-        code_columns(&self.columns, frame, &mut room[0..height], width);
+        code_columns(&self.columns, frame, width);
         Ok(())
     }
 }

@@ -6,12 +6,11 @@
 mod listing;
 
 use crate::listing::Unmarked;
-use anyhow::anyhow;
-use decoder::{column_line, row_line};
-use fields::DiscTables;
+use anyhow::Context;
+use discs::{DiscCodes, disc_codes};
+use job_rules::Kind;
 use jobs::Job;
 use scanning::{COLUMNS, Judgement, ROWS, count, judge, judging_work};
-use solving::BerlekampMassey;
 use std::io::Read;
 
 // A block and one byte more, by which a longer input is told.
@@ -36,19 +35,14 @@ fn show(rt: &HostRuntime, judgement: &Judgement) -> anyhow::Result<()> {
 
 // Decodes each row by itself once, and prints what that came to.
 fn mend_rows(rt: &HostRuntime, block: &mut [u8], codewords: usize) -> anyhow::Result<()> {
-    let heap = rt.alloc();
-    let Ok(rows) = row_line::<DiscTables, BerlekampMassey>(heap) else {
-        return Err(anyhow!("no memory for the row code"));
-    };
-    let Ok(columns) = column_line::<DiscTables, BerlekampMassey>(heap) else {
-        return Err(anyhow!("no memory for the column code"));
-    };
+    let DiscCodes { rows, columns } = disc_codes(rt.alloc()).context("no memory for the codes")?;
     let mut job = Job::new(rows, columns);
-    match job.row_pass(block) {
+    match job.pass(block, Kind::Row) {
         Ok(pass) => {
             let stuck = pass.stuck;
-            let bytes = pass.changes;
+            let bytes = pass.effort.changes;
             let mended = pass
+                .effort
                 .decodings
                 .saturating_sub(codewords as u64)
                 .saturating_sub(stuck);
@@ -57,7 +51,7 @@ fn mend_rows(rt: &HostRuntime, block: &mut [u8], codewords: usize) -> anyhow::Re
             )?;
         }
         Err(why) => {
-            let number = why.number();
+            let number = u8::from(why);
             println!(rt; "refused {number}: the row pass")?;
         }
     }
@@ -73,8 +67,8 @@ fn run(rt: &HostRuntime) -> anyhow::Result<()> {
             mend_rows(rt, &mut block, count(&judgement.rows))
         }
         Err(why) => {
-            let number = why.number();
-            println!(rt; "refused {number}: the block is not {ROWS} rows of {COLUMNS} bytes")?;
+            let number = u8::from(why);
+            println!(rt; "refused {number}: {why}")?;
             Ok(())
         }
     }

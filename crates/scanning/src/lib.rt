@@ -2,46 +2,57 @@
 
 #![tactic(auto)]
 
-ghost use Rattle.std.specs.Prelude.{◌≡◌, ◌-◌, ◌*◌, ◌≤◌, length};
+ghost use Rattle.std.specs.Prelude.{◌≡◌, ◌-◌, ◌*◌, ◌≤◌, length, Some, codes};
 ghost use Rattle.fields.specs.Binary.{disc};
 ghost use Rattle.codes.specs.Meaning.{Word};
 ghost use Rattle.codes.specs.Frames.{row, column};
 ghost use Rattle.reed_solomon.specs.Lines.{code_of};
-ghost use Rattle.reed_solomon.specs.Disc.{disc_row_code, disc_column_code};
+ghost use Rattle.reed_solomon.specs.Disc.{disc_row_code, disc_column_code, disc_code};
 ghost use Rattle.scanning.specs.Judging.{number, Tells, Marks, Judges};
 
 mod listing;
 
-pub use crate::listing::{count, next_run};
+pub use crate::listing::{Lines, count, next_run};
 use codes::take_column;
 use fields::DiscTables;
-use reed_solomon::{Line, disc_columns, disc_rows};
+use reed_solomon::{DiscCode, Line};
+use std::error::Error;
+use std::fmt;
 
 // The rows of a block, each as long as there are columns, and the columns.
 pub const ROWS: usize = 208;
 
 pub const COLUMNS: usize = 182;
 
-// What judging a block refuses.
-#[derive(Clone, Copy)]
+// What judging a block refuses, with its number.
+#[derive(Clone, Copy, PartialEq, Eq, Debug)]
 pub enum Refusal {
     // The block is not 208 rows of 182 bytes.
-    FrameLength,
+    FrameLength = 1,
 }
 
-impl Refusal {
-    // The refusal's number.
-    pub fn number(&self) -> u8
-        ensures { result ≡ number self.now }
-    {
-        match self {
-            Refusal::FrameLength => 1,
-        }
+// Each crate converts its own enum: one `impl` for all of them would be of a foreign trait for a foreign type.
+impl From<Refusal> for u8 {
+    ghost from_gives = { λ why n. n ≡ number why };
+
+    fn from(why: Refusal) -> u8 {
+        why as u8
     }
 }
 
+// By hand, so that its text is stated.
+impl fmt::Display for Refusal {
+    ghost output = { λ _. Some (codes "the block is not 208 rows of 182 bytes") };
+
+    fn fmt<W: fmt::Write>(&self, f: &mut fmt::Formatter<W>) -> fmt::Result {
+        f.write_str("the block is not 208 rows of 182 bytes")
+    }
+}
+
+impl Error for Refusal {}
+
 // What judging a block takes: its symbols, and the syndromes that each enters by its row and by its column.
-#[derive(Clone, Copy)]
+#[derive(Clone, Copy, PartialEq, Eq, Debug)]
 pub struct Work {
     pub symbols: usize,
     pub row_syndromes: u8,
@@ -54,50 +65,27 @@ pub fn judging_work() -> Work
     ensures row_syndromes { result.row_syndromes ≡ 182 - 172 }
     ensures column_syndromes { result.column_syndromes ≡ 208 - 192 }
 {
-    let rows = disc_rows();
-    let columns = disc_columns();
+    let rows = DiscCode::Rows.numbers();
+    let columns = DiscCode::Columns.numbers();
     Work {
         symbols: columns.length as usize * rows.length as usize,
-        row_syndromes: rows.length - rows.dimension,
-        column_syndromes: columns.length - columns.dimension,
+        row_syndromes: rows.checks(),
+        column_syndromes: columns.checks(),
     }
 }
 
 // For each row and each column, whether it is a codeword.
 #[derive(Clone, Copy)]
 pub struct Judgement {
-    pub rows: [bool; 208],
-    pub columns: [bool; 182],
+    pub rows: [bool; ROWS],
+    pub columns: [bool; COLUMNS],
 }
 
-// A line of the disc's row code.
-fn row_line() -> Line<DiscTables>
-    ensures { code_of disc result.numbers ≡ disc_row_code }
+// A line of one of the disc's codes.
+fn disc_line(which: DiscCode) -> Line<DiscTables>
+    ensures { code_of disc result.numbers ≡ disc_code which }
 {
-    match Line::new(disc_rows()) {
-        Ok(line) => line,
-        Err(_) => unreachable(),
-    }
-}
-
-// A line of the disc's column code.
-fn column_line() -> Line<DiscTables>
-    ensures { code_of disc result.numbers ≡ disc_column_code }
-{
-    match Line::new(disc_columns()) {
-        Ok(line) => line,
-        Err(_) => unreachable(),
-    }
-}
-
-// Is it a codeword? A line of another length is none.
-fn is_word(code: &Line<DiscTables>, line: &[u8]) -> bool
-    ensures { Tells result (Word (code_of disc code.now.numbers) line.now) }
-{
-    match code.check(line) {
-        Ok(good) => good,
-        Err(_) => false,
-    }
+    Line::new(which.numbers()).unwrap()
 }
 
 // Marks the rows of `width` bytes that are codewords.
@@ -107,45 +95,26 @@ fn judge_rows(code: &Line<DiscTables>, frame: &[u8], width: usize, marks: &mut [
     requires narrow { width ≤ 255 }
     ensures { Marks (code_of disc code.now.numbers) (row width frame.now) marks.new }
 {
-    for i in 0..marks.len() {
+    for (i, mark) in marks.iter_mut().enumerate() {
         let at = i * width;
-        marks[i] = is_word(code, &frame[at..at + width]);
+        *mark = code.is_codeword(&frame[at..at + width]);
     }
 }
 
-// Marks the columns that are codewords, one for each byte of a row; `line` has room for one of them.
-fn judge_columns(code: &Line<DiscTables>, frame: &[u8], line: &mut [u8], marks: &mut [bool])
-    requires whole { length frame.now ≡ length line.old * length marks.old }
-    requires low { length line.old ≤ 255 }
+// Marks the columns that are codewords, one for each byte of a row. A row is a part of the frame, a column a copy out of it.
+fn judge_columns(code: &Line<DiscTables>, frame: &[u8], height: usize, marks: &mut [bool])
+    requires whole { length frame.now ≡ height * length marks.old }
+    requires low { height ≤ 255 }
     requires narrow { length marks.old ≤ 255 }
-    ensures { Marks (code_of disc code.now.numbers) (column (length marks.old) (length line.old) frame.now) marks.new }
+    ensures { Marks (code_of disc code.now.numbers) (column (length marks.old) height frame.now) marks.new }
 {
     let width = marks.len();
-    for j in 0..width {
-        let _ = take_column(line, frame, width, j);
-        marks[j] = is_word(code, line);
+    let mut room = [0u8; 255];
+    let line = &mut room[..height];
+    for (j, mark) in marks.iter_mut().enumerate() {
+        take_column(line, frame, width, j).unwrap();
+        *mark = code.is_codeword(line);
     }
-}
-
-// Room for one column.
-fn column_room() -> [u8; 208]
-    ensures { length result ≡ 208 }
-{
-    [0; 208]
-}
-
-// Room for the marks of the rows.
-fn row_marks() -> [bool; 208]
-    ensures { length result ≡ 208 }
-{
-    [false; 208]
-}
-
-// Room for the marks of the columns.
-fn column_marks() -> [bool; 182]
-    ensures { length result ≡ 182 }
-{
-    [false; 182]
 }
 
 // Judges every row and every column of a block; one of another length is refused.
@@ -155,10 +124,9 @@ pub fn judge(block: &[u8]) -> Result<Judgement, Refusal>
     if block.len() != ROWS * COLUMNS {
         return Err(Refusal::FrameLength);
     }
-    let mut rows = row_marks();
-    judge_rows(&row_line(), block, COLUMNS, &mut rows);
-    let mut columns = column_marks();
-    let mut line = column_room();
-    judge_columns(&column_line(), block, &mut line, &mut columns);
+    let mut rows = [false; ROWS];
+    judge_rows(&disc_line(DiscCode::Rows), block, COLUMNS, &mut rows);
+    let mut columns = [false; COLUMNS];
+    judge_columns(&disc_line(DiscCode::Columns), block, ROWS, &mut columns);
     Ok(Judgement { rows, columns })
 }

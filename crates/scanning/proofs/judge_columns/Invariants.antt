@@ -7,4 +7,4 @@ use Rattle.scanning.specs.Judging.{Tells}
 use Rattle.scanning.proofs.judge_columns.Given as goal
 
 abbrev pub invariant-loop-j : goal.invariant-loop-j
-invariant-loop-j l = (k : ℕ) → k < l.j → Tells (get_or l.marks k false) (Word (code_of disc l.code.numbers) (column (length l.initial.marks) (length l.initial.line) l.frame k))
+invariant-loop-j l = (k : ℕ) → k < l.j → Tells (get_or l.marks k false) (Word (code_of disc l.code.numbers) (column (length l.initial.marks) l.height l.frame k))

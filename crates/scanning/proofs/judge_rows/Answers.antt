@@ -6,8 +6,8 @@ use Rattle.reed_solomon.specs.Lines.{code_of}
 use Rattle.scanning.specs.Judging.{Tells}
 use Rattle.scanning.proofs.judge_rows.Goals as goal
 
-pub slice_bounds-is_word-end : goal.slice_bounds-is_word-end
-slice_bounds-is_word-end c =
+pub slice_bounds-is_codeword-end : goal.slice_bounds-is_codeword-end
+slice_bounds-is_codeword-end c =
     let e = row_end (length c.args.marks.now) c.loop-i.i c.args.width (omega arith) in
     search rules
 
@@ -20,4 +20,5 @@ loop-i-preserved c =
     let lt : c.loop-i.i < length c.loop-i.marks = omega arith in
     below_more _ _
     (λ k h. let ne : k ≢ c.loop-i.i = omega arith in rw get_or-set_other (c.loop-i.invariant k h))
-    (rw get_or-set_same (subst (λ (n : ℕ). Tells c.is_word.result (Word m (take n (drop (i * w) c.args.frame.now)))) part c.is_word.ensures))
+    (rw get_or-set_same (subst (λ (n : ℕ). Tells c.is_codeword.result (Word m (take n (drop (i * w) c.args.frame.now)))) part
+    (record { then = c.is_codeword.ensures.sound; only = c.is_codeword.ensures.complete })))

@@ -1,12 +1,8 @@
-use Rattle.std.proofs.Common.{◌≡◌, ℕ, ◌-◌, ◌*◌, ◌<◌, length, take, ◌∙◌, subst, arith, length-take-le}
+use Rattle.std.proofs.Common.{◌≡◌, ◌*◌, length, ◌∙◌, arith}
 use Rattle.fields.specs.Binary.{disc}
 use Rattle.fields.specs.Fields.{disc_laws}
-use Rattle.codes.specs.Meaning.{Word}
-use Rattle.codes.specs.Frames.{column}
 use Rattle.reed_solomon.specs.declared.numbers.CodeNumbers.{CodeNumbers}
 use Rattle.reed_solomon.specs.Numbers.{Within}
-use Rattle.reed_solomon.specs.Lines.{code_of}
-use Rattle.coding.specs.Coding.{SameMessage}
 use Rattle.frames.proofs.Carried.{coded}
 use Rattle.frames.proofs.FrameCoder.code.Goals as goal
 
@@ -19,15 +15,10 @@ returns g c =
     let q = c.args.self.now.columns.numbers in
     let whole : length c.args.frame.now ≡ q.length * p.length = omega arith in
     let between = c.code_rows.new.frame in
-    let after = c.code_columns.new.frame in
-    let all : q.length - 0 ≡ q.length = omega arith in
-    let room : length (take (q.length - 0) c.column_room-room.result) ≡ q.length =
-    length-take-le (q.length - 0) c.column_room-room.result (let h = q.short in let e = c.column_room-room.ensures in omega arith) ∙ all in (
+    let after = c.code_columns.new.frame in (
       whole,
       omega arith,
       coded disc disc_laws p.length p.dimension p.root p.order q.length q.dimension q.root q.order (within p) (within q)
           c.args.message.now between after (c.code_rows.auto.frame ∙ whole) (c.code_columns.auto.frame ∙ c.code_rows.auto.frame ∙ whole)
-          c.code_rows.ensures.words c.code_rows.ensures.heads
-          (subst (λ (n : ℕ). (j : ℕ) → j < p.length → Word (code_of disc q) (column p.length n after j)) room c.code_columns.ensures.words)
-          (subst (λ (n : ℕ). (j : ℕ) → j < p.length → SameMessage q.dimension (column p.length n after j) (column p.length n between j)) room c.code_columns.ensures.heads),
+          c.code_rows.ensures.words c.code_rows.ensures.heads c.code_columns.ensures.words c.code_columns.ensures.heads,
     )
