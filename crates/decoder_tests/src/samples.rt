@@ -1,6 +1,16 @@
 // Codewords and errors to test with.
+ghost use Rattle.std.specs.Prelude.{◌≤◌};
+
 use fields::Field;
 use reed_solomon::power;
+
+// The checks of a code: how many check symbols it has, and its first root.
+#[derive(Clone, Copy)]
+pub struct Checks {
+    pub count: u8,
+    pub root: u8,
+    ghost few: { count ≤ 32 },
+}
 
 // Numbers that look random.
 #[derive(Drop)]
@@ -27,62 +37,44 @@ impl Dice {
 }
 
 // The generator polynomial, the highest coefficient first: the product of x + α^(root + i).
-fn generator<F: Field>(root: u8, checks: u8) -> [u8; 33] {
+fn generator<F: Field>(checks: Checks) -> [u8; 33] {
     let mut g = [0u8; 33];
     g[0] = 1;
-    let mut zero = power::<F>(F::alpha(), root);
-    for _ in 0..checks {
+    let mut zero = power::<F>(F::GENERATOR, checks.root);
+    for _ in 0..checks.count {
         let mut above = 0u8;
         for x in g.iter_mut() {
             let here = *x;
             *x = F::sum(here, F::product(above, zero));
             above = here;
         }
-        zero = F::product(zero, F::alpha());
+        zero = F::product(zero, F::GENERATOR);
     }
     g
 }
 
 // A codeword: a message that looks random times the generator polynomial.
-pub fn codeword<F: Field>(line: &mut [u8], root: u8, checks: u8, dice: &mut Dice) {
-    let g = generator::<F>(root, checks);
-    for x in line.iter_mut() {
-        *x = 0;
-    }
-    let n = line.len();
-    for i in 0..n.saturating_sub(checks as usize) {
-        let symbol = dice.below(F::order());
-        for (j, factor) in g.iter().enumerate() {
-            let at = i.wrapping_add(j);
-            if j <= checks as usize && at < n {
-                line[at] = F::sum(line[at], F::product(symbol, *factor));
-            }
+pub fn codeword<F: Field>(line: &mut [u8], checks: Checks, dice: &mut Dice) {
+    let g = generator::<F>(checks);
+    line.fill(0);
+    // By index: each symbol of the message adds the generator from its own place on.
+    for i in 0..line.len().saturating_sub(checks.count as usize) {
+        let symbol = dice.below(F::ELEMENTS);
+        for (x, factor) in line[i..].iter_mut().zip(g) {
+            *x = F::sum(*x, F::product(symbol, factor));
         }
     }
 }
 
 // Makes the symbol at a place another one of the field.
 pub fn spoil<F: Field>(line: &mut [u8], place: usize, dice: &mut Dice) {
-    if place < line.len() {
-        let error = dice.below(F::order().saturating_sub(1)).wrapping_add(1);
-        line[place] = F::sum(line[place], error);
-    }
-}
-
-// Copies as much as there is room for.
-pub fn copy(to: &mut [u8], from: &[u8]) {
-    for (x, y) in to.iter_mut().zip(from.iter()) {
-        *x = *y;
+    if let Some(symbol) = line.get_mut(place) {
+        let error = dice.below(F::ELEMENTS.saturating_sub(1)).wrapping_add(1);
+        *symbol = F::sum(*symbol, error);
     }
 }
 
 // At how many places two lines differ.
-pub fn differ(one: &[u8], two: &[u8]) -> u8 {
-    let mut n = 0u8;
-    for (x, y) in one.iter().zip(two.iter()) {
-        if x != y {
-            n = n.saturating_add(1);
-        }
-    }
-    n
+pub fn differ(one: &[u8], two: &[u8]) -> usize {
+    one.iter().zip(two).filter(|(x, y)| x != y).count()
 }

@@ -4,67 +4,56 @@
 
 use coding::Coder;
 use fields::{DiscField, DiscShifts, DiscTables, Field, Gf64};
-use reed_solomon::{CodeNumbers, Line};
+use reed_solomon::{CodeNumbers, Line, Refusal};
 
-// The number of the refusal that these code numbers get, or 0.
-fn refused(length: u64, dimension: u64, root: u64, order: u64) -> u8 {
-    match CodeNumbers::new(length, dimension, root, order) {
-        Ok(_) => 0,
-        Err(why) => why.number(),
+// The numbers of a code, before its field is named.
+#[derive(Clone, Copy)]
+struct Code {
+    length: u64,
+    dimension: u64,
+    root: u64,
+}
+
+impl Code {
+    // The code numbers over the field F.
+    fn over<F: Field>(self) -> Result<CodeNumbers, Refusal> {
+        CodeNumbers::new(
+            self.length,
+            self.dimension,
+            self.root,
+            u64::from(F::ELEMENTS),
+        )
     }
 }
 
-// The number of the refusal that a line over F and a coder get from these code numbers, or 0; 255 where they differ.
-fn refused_for<F: DiscField>(length: u64, dimension: u64, root: u64, order: u64) -> u8 {
-    let numbers = match CodeNumbers::new(length, dimension, root, order) {
-        Ok(numbers) => numbers,
-        Err(why) => return why.number(),
-    };
-    let by_line = match Line::<F>::new(numbers) {
-        Ok(_) => 0,
-        Err(why) => why.number(),
-    };
-    let by_coder = match Coder::<F>::new(numbers) {
-        Ok(_) => 0,
-        Err(why) => why.number(),
-    };
-    if by_line == by_coder { by_line } else { 255 }
+// The number of the refusal that these code numbers get.
+fn refused(length: u64, dimension: u64, root: u64, order: u64) -> Option<u8> {
+    CodeNumbers::new(length, dimension, root, order)
+        .err()
+        .map(u8::from)
 }
 
-// Is the line a codeword of these numbers over F? `None` where something was refused.
-fn judged<F: Field>(length: u64, dimension: u64, root: u64, line: &[u8]) -> Option<bool> {
-    let numbers = CodeNumbers::new(length, dimension, root, u64::from(F::order())).ok()?;
-    let code = Line::<F>::new(numbers).ok()?;
+// The numbers of the refusals that a line over F and a coder get from the code numbers of a field of `order` elements.
+fn refused_for<F: DiscField>(code: Code, order: u64) -> Result<(Option<u8>, Option<u8>), Refusal> {
+    let numbers = CodeNumbers::new(code.length, code.dimension, code.root, order)?;
+    let by_line = Line::<F>::new(numbers).err().map(u8::from);
+    let by_coder = Coder::<F>::new(numbers).err().map(u8::from);
+    Ok((by_line, by_coder))
+}
+
+// Is the line a codeword over F? `None` where something was refused.
+fn judged<F: Field>(code: Code, line: &[u8]) -> Option<bool> {
+    let code = Line::<F>::new(code.over::<F>().ok()?).ok()?;
     code.check(line).ok()
 }
 
 // Codes a line in both ways that the disc field computes, and tells whether they agree. `None` where something was refused.
-fn coded(
-    length: u64,
-    dimension: u64,
-    root: u64,
-    line: &mut [u8],
-    again: &mut [u8],
-) -> Option<bool> {
-    let numbers = CodeNumbers::new(length, dimension, root, 256).ok()?;
-    let tables = Coder::<DiscTables>::new(numbers).ok()?;
-    let shifts = Coder::<DiscShifts>::new(numbers).ok()?;
+fn coded(code: Code, line: &mut [u8], again: &mut [u8]) -> Option<bool> {
+    let tables = Coder::<DiscTables>::new(code.over::<DiscTables>().ok()?).ok()?;
+    let shifts = Coder::<DiscShifts>::new(code.over::<DiscShifts>().ok()?).ok()?;
     tables.code(line).ok()?;
     shifts.code(again).ok()?;
-    Some(same(line, again))
-}
-
-// Have the two slices the same bytes?
-fn same(one: &[u8], two: &[u8]) -> bool {
-    if one.len() != two.len() {
-        return false;
-    }
-    for (x, y) in one.iter().zip(two.iter()) {
-        if x != y {
-            return false;
-        }
-    }
-    true
+    Some(&*line == &*again)
 }
 
 // Bytes that look random.
@@ -77,12 +66,13 @@ fn scatter(line: &mut [u8], start: u32) {
 }
 
 // How many of the lines that differ from this one at one place are codewords of the disc field.
-fn near(length: u64, dimension: u64, root: u64, line: &mut [u8]) -> Option<u32> {
+fn near(code: Code, line: &mut [u8]) -> Option<u32> {
     let mut found = 0u32;
+    // By index: the whole line is judged while one of its places differs.
     for p in 0..line.len() {
         let old = line[p];
         line[p] = old ^ 0x5a;
-        if judged::<DiscTables>(length, dimension, root, line)? {
+        if judged::<DiscTables>(code, line)? {
             found = found.saturating_add(1);
         }
         line[p] = old;
@@ -93,6 +83,30 @@ fn near(length: u64, dimension: u64, root: u64, line: &mut [u8]) -> Option<u32> 
 #[cfg(test)]
 mod tests {
     use super::*;
+
+    const SHORT: Code = Code {
+        length: 6,
+        dimension: 4,
+        root: 0,
+    };
+
+    const COLUMN: Code = Code {
+        length: 208,
+        dimension: 192,
+        root: 0,
+    };
+
+    const MANY_CHECKS: Code = Code {
+        length: 208,
+        dimension: 176,
+        root: 254,
+    };
+
+    const FEW_CHECKS: Code = Code {
+        length: 208,
+        dimension: 205,
+        root: 17,
+    };
 
     #[test]
     fn disc_fields_agree(rt: HostRuntime) {
@@ -115,44 +129,50 @@ mod tests {
 
     #[test]
     fn limits_of_code_numbers(rt: HostRuntime) {
-        assert_eq!(rt; refused(182, 172, 0, 256), 0);
-        assert_eq!(rt; refused(255, 223, 254, 256), 0);
-        assert_eq!(rt; refused(255, 222, 0, 256), 6);
-        assert_eq!(rt; refused(33, 1, 0, 256), 0);
-        assert_eq!(rt; refused(34, 1, 0, 256), 6);
-        assert_eq!(rt; refused(6, 0, 0, 256), 6);
-        assert_eq!(rt; refused(6, 6, 0, 256), 6);
-        assert_eq!(rt; refused(6, 4, 255, 256), 6);
-        assert_eq!(rt; refused(63, 60, 0, 64), 0);
-        assert_eq!(rt; refused(64, 60, 0, 64), 6);
-        assert_eq!(rt; refused(2, 1, 0, 3), 0);
-        assert_eq!(rt; refused(2, 1, 0, 2), 6);
-        assert_eq!(rt; refused(300, 290, 0, 65_536), 6);
-        assert_eq!(rt; refused(6, 4, 0, 257), 6);
-        assert_eq!(rt; refused(262, 260, 256, 512), 6);
+        assert_eq!(rt; refused(182, 172, 0, 256), None);
+        assert_eq!(rt; refused(255, 223, 254, 256), None);
+        assert_eq!(rt; refused(255, 222, 0, 256), Some(6));
+        assert_eq!(rt; refused(33, 1, 0, 256), None);
+        assert_eq!(rt; refused(34, 1, 0, 256), Some(6));
+        assert_eq!(rt; refused(6, 0, 0, 256), Some(6));
+        assert_eq!(rt; refused(6, 6, 0, 256), Some(6));
+        assert_eq!(rt; refused(6, 4, 255, 256), Some(6));
+        assert_eq!(rt; refused(63, 60, 0, 64), None);
+        assert_eq!(rt; refused(64, 60, 0, 64), Some(6));
+        assert_eq!(rt; refused(2, 1, 0, 3), None);
+        assert_eq!(rt; refused(2, 1, 0, 2), Some(6));
+        assert_eq!(rt; refused(300, 290, 0, 65_536), Some(6));
+        assert_eq!(rt; refused(6, 4, 0, 257), Some(6));
+        assert_eq!(rt; refused(262, 260, 256, 512), Some(6));
     }
 
     #[test]
     fn another_field_or_length_is_refused(rt: HostRuntime) {
-        assert_eq!(rt; refused_for::<DiscTables>(6, 4, 0, 64), 6);
-        assert_eq!(rt; refused_for::<DiscShifts>(6, 4, 0, 64), 6);
-        assert_eq!(rt; refused_for::<DiscShifts>(6, 4, 0, 256), 0);
-        assert_eq!(rt; judged::<DiscTables>(6, 4, 0, &[0, 0, 0, 1, 3]), None);
         assert_eq!(rt;
-            judged::<DiscTables>(6, 4, 0, &[0, 0, 0, 1, 3, 2]),
+            refused_for::<DiscTables>(SHORT, 64),
+            Ok((Some(6), Some(6)))
+        );
+        assert_eq!(rt;
+            refused_for::<DiscShifts>(SHORT, 64),
+            Ok((Some(6), Some(6)))
+        );
+        assert_eq!(rt; refused_for::<DiscShifts>(SHORT, 256), Ok((None, None)));
+        assert_eq!(rt; judged::<DiscTables>(SHORT, &[0, 0, 0, 1, 3]), None);
+        assert_eq!(rt;
+            judged::<DiscTables>(SHORT, &[0, 0, 0, 1, 3, 2]),
             Some(true)
         );
         assert_eq!(rt;
-            judged::<DiscShifts>(6, 4, 0, &[0, 0, 0, 1, 3, 3]),
+            judged::<DiscShifts>(SHORT, &[0, 0, 0, 1, 3, 3]),
             Some(false)
         );
     }
 
     #[test]
     fn symbols_outside_the_alphabet_make_no_codeword(rt: HostRuntime) {
-        assert_eq!(rt; judged::<Gf64>(6, 4, 0, &[0, 0, 0, 1, 3, 2]), Some(true));
-        assert_eq!(rt; judged::<Gf64>(6, 4, 0, &[0, 0, 0, 0, 0, 0]), Some(true));
-        assert_eq!(rt; judged::<Gf64>(6, 4, 0, &[64, 0, 0, 0, 0, 0]), Some(false));
+        assert_eq!(rt; judged::<Gf64>(SHORT, &[0, 0, 0, 1, 3, 2]), Some(true));
+        assert_eq!(rt; judged::<Gf64>(SHORT, &[0, 0, 0, 0, 0, 0]), Some(true));
+        assert_eq!(rt; judged::<Gf64>(SHORT, &[64, 0, 0, 0, 0, 0]), Some(false));
     }
 
     #[test]
@@ -161,14 +181,14 @@ mod tests {
         let mut again = [0u8; 208];
         scatter(&mut line, 1);
         scatter(&mut again, 1);
-        assert_eq!(rt; coded(208, 192, 0, &mut line, &mut again), Some(true));
-        assert_eq!(rt; judged::<DiscTables>(208, 192, 0, &line), Some(true));
-        assert_eq!(rt; judged::<DiscShifts>(208, 192, 0, &line), Some(true));
-        assert_eq!(rt; near(208, 192, 0, &mut line), Some(0));
-        assert_eq!(rt; coded(208, 176, 254, &mut line, &mut again), Some(true));
-        assert_eq!(rt; judged::<DiscTables>(208, 176, 254, &line), Some(true));
-        assert_eq!(rt; coded(208, 205, 17, &mut line, &mut again), Some(true));
-        assert_eq!(rt; judged::<DiscTables>(208, 205, 17, &line), Some(true));
-        assert_eq!(rt; near(208, 205, 17, &mut line), Some(0));
+        assert_eq!(rt; coded(COLUMN, &mut line, &mut again), Some(true));
+        assert_eq!(rt; judged::<DiscTables>(COLUMN, &line), Some(true));
+        assert_eq!(rt; judged::<DiscShifts>(COLUMN, &line), Some(true));
+        assert_eq!(rt; near(COLUMN, &mut line), Some(0));
+        assert_eq!(rt; coded(MANY_CHECKS, &mut line, &mut again), Some(true));
+        assert_eq!(rt; judged::<DiscTables>(MANY_CHECKS, &line), Some(true));
+        assert_eq!(rt; coded(FEW_CHECKS, &mut line, &mut again), Some(true));
+        assert_eq!(rt; judged::<DiscTables>(FEW_CHECKS, &line), Some(true));
+        assert_eq!(rt; near(FEW_CHECKS, &mut line), Some(0));
     }
 }
