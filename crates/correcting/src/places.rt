@@ -35,10 +35,7 @@ impl<F: Field> Received<'_, F> {
         let mut places = ArrayVec::new();
         for (place, x) in self.table.iter().enumerate() {
             if vanishes::<F>(coefficients, *x) {
-                if places.is_full() {
-                    return None;
-                }
-                places.push(place as u8);
+                places.try_push(place as u8).ok()?;
             }
         }
         if places.len() == polynomial.degree() {
