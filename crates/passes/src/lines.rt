@@ -41,6 +41,7 @@ pub fn open_changed(lines: &mut Lines, kind: Kind, old: &[u8], new: &[u8])
     ensures cross { on kind lines.new ≡ where_differ opened (take (length new.now) old.now) new.now (on kind lines.old) }
     ensures other { on (crossing kind) lines.new ≡ on (crossing kind) lines.old }
 {
+    // With the place: it is the number of the line across.
     for (k, after) in new.iter().enumerate() {
         if old[k] != *after {
             lines.open(kind, k);

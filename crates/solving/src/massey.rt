@@ -59,6 +59,7 @@ impl Recurrence {
         ensures { result ≡ coefficient F.Field.meaning self.now.locator.items s.now r }
     {
         let mut d = 0;
+        // With the place: the syndromes go down as the coefficients go up, as in the product of two polynomials.
         for (i, x) in self.locator[..r + 1].iter().enumerate() {
             d = F::sum(d, F::product(*x, s[r - i]));
         }
