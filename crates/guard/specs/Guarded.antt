@@ -31,11 +31,12 @@ pub record Unchanged (before after : Guard) : Type 0 where
   pub count : count after ≡ count before
   pub passed : after.passed ≡ before.passed
 
--- the byte is changed exactly where the line has the place and there is room for a note, and else nothing is
+-- the byte is changed exactly where the line has the place and there is room for a note, and else nothing is;
+-- the place is asked first
 abbrev pub Sets : (place value : ℕ) (before after : Guard) → Result Unit SetError → Type 0
 Sets place value before after (Ok _) = Changed place value before after
 Sets place value before after (Err Place) = (length (bytes before) ≤ place) × Unchanged before after
-Sets place value before after (Err Room) = (32 ≤ count before) × Unchanged before after
+Sets place value before after (Err Room) = (place < length (bytes before)) × (32 ≤ count before) × Unchanged before after
 
 -- what the errors print
 abbrev pub sentence : SetError → List ℕ
