@@ -1,5 +1,5 @@
 // Codewords and errors to test with.
-ghost use Rattle.std.specs.Prelude.{◌≤◌};
+ghost use Rattle.std.specs.Prelude.{◌≡◌, ℕ, ◌<◌, ◌≤◌, ◌≢◌, length, slice_index};
 
 use fields::Field;
 use reed_solomon::power;
@@ -19,12 +19,16 @@ pub struct Dice {
 }
 
 impl Dice {
-    pub fn new(seed: u32) -> Dice {
+    pub fn new(seed: u32) -> Dice
+        ensures { result.state ≡ seed }
+    {
         Dice { state: seed }
     }
 
     // A number below `limit`, or 0.
-    pub fn below(&mut self, limit: u16) -> u8 {
+    pub fn below(&mut self, limit: u16) -> u8
+        ensures { 0 < limit → limit ≤ 256 → result < limit }
+    {
         self.state = self
             .state
             .wrapping_mul(1_664_525)
@@ -67,14 +71,18 @@ pub fn codeword<F: Field>(line: &mut [u8], checks: Checks, dice: &mut Dice) {
 }
 
 // Makes the symbol at a place another one of the field.
-pub fn spoil<F: Field>(line: &mut [u8], place: usize, dice: &mut Dice) {
-    if let Some(symbol) = line.get_mut(place) {
+pub fn spoil<F: Field>(line: &mut [u8], place: usize, dice: &mut Dice)
+    ensures { (k : ℕ) → k ≢ place → slice_index line.new k ≡ slice_index line.old k }
+{
+    if place < line.len() {
         let error = dice.below(F::ELEMENTS.saturating_sub(1)).wrapping_add(1);
-        *symbol = F::sum(*symbol, error);
+        line[place] = F::sum(line[place], error);
     }
 }
 
 // At how many places two lines differ.
-pub fn differ(one: &[u8], two: &[u8]) -> usize {
+pub fn differ(one: &[u8], two: &[u8]) -> usize
+    ensures { result ≤ length one.now }
+{
     one.iter().zip(two).filter(|(x, y)| x != y).count()
 }
