@@ -17,7 +17,7 @@ use solving::{Solver, Syndromes};
 
 impl<F: Field> Received<'_, F> {
     // What to write at which places, if any codeword is in reach: none where it is plain that there is not.
-    fn corrections<S: Solver<F>>(&self) -> Option<ArrayVec<Correction, 16>>
+    fn corrections<S: Solver<F>>(&self) -> Option<ArrayVec<Correction, 32>>
         ensures { Offers (code_of F.Field.meaning self.now.code.now.numbers) self.now.line.now result }
     {
         let polynomial = S::solve(self.syndromes)?;

@@ -1,6 +1,7 @@
 // The values at known places, for every first root and for as many places as there are syndromes.
 ghost use Rattle.std.specs.Prelude.{◌≡◌, ℕ, ◌+◌, ◌<◌, ◌≤◌, length, slice_index};
 ghost use Rattle.algebra.specs.Lines.{Elements};
+ghost use Rattle.solving.specs.Sequences.{terms};
 ghost use Rattle.errors.specs.Places.{IsErrorValue, IsCorrected, Fixes};
 ghost use Rattle.correcting.specs.Corrections.{places_of, values_of};
 
@@ -52,7 +53,7 @@ impl<F: Field> WrongPlaces<'_, F> {
     fn corrected(&self, j: usize) -> u8
         requires { j < length self.now.places.now }
         ensures { IsCorrected F.Field.meaning self.now.received.now.code.now.numbers.root self.now.received.now.line.now self.now.received.now.table.now
-            self.now.received.now.syndromes.now.terms.items self.now.places.now j result }
+            (terms self.now.received.now.syndromes.now) self.now.places.now j result }
     {
         let n = self.places.len();
         let mut sums = [0; 32];
@@ -65,11 +66,10 @@ impl<F: Field> WrongPlaces<'_, F> {
     }
 
     // The corrected bytes at all the places.
-    pub(crate) fn corrections(&self) -> ArrayVec<Correction, 16>
-        requires { length self.now.places.now ≤ 16 }
+    pub(crate) fn corrections(&self) -> ArrayVec<Correction, 32>
         ensures places { places_of result.items ≡ self.now.places.now }
         ensures values { Fixes F.Field.meaning self.now.received.now.code.now.numbers.root self.now.received.now.line.now self.now.received.now.table.now
-            self.now.received.now.syndromes.now.terms.items self.now.places.now (values_of result.items) }
+            (terms self.now.received.now.syndromes.now) self.now.places.now (values_of result.items) }
     {
         let mut corrections = ArrayVec::new();
         for (j, place) in self.places.iter().enumerate() {

@@ -1,3 +1,4 @@
 pub mod Steps
 pub mod Promise
 pub mod Going
+pub mod Parts

@@ -1,28 +1,28 @@
 // A polynomial as a solver answers it: of degree at most 16, its leading coefficient not 0.
-ghost use Rattle.std.specs.Prelude.{⊤, ◌≡◌, ◌-◌, ◌<◌, ◌≤◌, length, MatchOption, slice_index};
-ghost use Rattle.arrayvec.specs.ArrayVec.{array_vec_len};
+ghost use Rattle.std.specs.Prelude.{⊤, ◌≡◌, ◌+◌, ◌-◌, ◌<◌, ◌≤◌, length, take, MatchOption, slice_index};
 
-use arrayvec::ArrayVec;
 use std::alloc::AllocError;
 
-// The coefficients, the lowest first.
-#[derive(Drop)]
+// The first `degree + 1` of the coefficients, the lowest first. An array and a number, and no vector of fixed capacity:
+// a polynomial is copied like a number, and such a vector cannot be.
+#[derive(Copy)]
 pub struct Polynomial {
-    coefficients: ArrayVec<u8, 17>,
-    ghost some: { 0 < array_vec_len coefficients },
-    ghost few: { array_vec_len coefficients ≤ 17 },
-    ghost leading: { 0 < slice_index coefficients.items (array_vec_len coefficients - 1) },
+    coefficients: [u8; 17],
+    degree: usize,
+    ghost few: { degree ≤ 16 },
+    ghost leading: { 0 < slice_index coefficients degree },
 }
 
-// By hand: a type with ghost fields has no derived `Clone`.
+// By hand, so that it is stated that a copy is the same polynomial.
 impl Clone for Polynomial {
-    ghost is_clone = { λ p q. q.coefficients.items ≡ p.coefficients.items };
+    ghost is_clone = { λ p q. q ≡ p };
 
     ghost is_infallible = { λ _. ⊤ };
 
     fn clone(&self) -> Result<Polynomial, AllocError> {
         Ok(Polynomial {
-            coefficients: self.coefficients.clone()?,
+            coefficients: self.coefficients,
+            degree: self.degree,
         })
     }
 }
@@ -33,27 +33,32 @@ impl Polynomial {
         ensures { MatchOption result
             (1 ≤ length coefficients.now → length coefficients.now ≤ 17
             → 0 < slice_index coefficients.now (length coefficients.now - 1) → ⊥)
-            (λ x. x.coefficients.items ≡ coefficients.now) }
+            (λ x. (take (x.degree + 1) x.coefficients ≡ coefficients.now) × (x.degree + 1 ≡ length coefficients.now)) }
     {
-        if *coefficients.last()? == 0 {
+        let count = coefficients.len();
+        if *coefficients.last()? == 0 || count > 17 {
             return None;
         }
+        let mut kept = [0; 17];
+        kept[..count].copy_from_slice(coefficients);
         Some(Polynomial {
-            coefficients: ArrayVec::try_from(coefficients).ok()?,
+            coefficients: kept,
+            degree: count - 1,
         })
     }
 
     // The highest power with a coefficient that is not 0.
     pub fn degree(&self) -> usize
-        ensures { result ≡ array_vec_len self.now.coefficients - 1 }
+        ensures { result ≡ self.now.degree }
     {
-        self.coefficients.len() - 1
+        self.degree
     }
 
     // The coefficients, the lowest first: one more than the degree.
     pub fn coefficients(&self) -> &[u8]
-        ensures { result.now ≡ self.now.coefficients.items }
+        ensures value { result.now ≡ take (self.now.degree + 1) self.now.coefficients }
+        ensures count { length result.now ≡ self.now.degree + 1 }
     {
-        self.coefficients.as_slice()
+        &self.coefficients[..self.degree + 1]
     }
 }

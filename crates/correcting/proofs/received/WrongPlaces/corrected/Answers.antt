@@ -1,4 +1,5 @@
 use Rattle.std.proofs.Common.{◌≡◌, ℕ, ◌<◌, length, get_or, take, sym, ap, ◌∙◌, subst, arith}
+use Rattle.solving.specs.Sequences.{terms}
 use Rattle.errors.proofs.Decided.{sums_elements}
 use Rattle.correcting.proofs.Fronts.{front_length, front_at}
 use Rattle.correcting.proofs.received.WrongPlaces.corrected.Goals as goal
@@ -7,7 +8,7 @@ pub error_value-requires-clause-elements : goal.error_value-requires-clause-elem
 error_value-requires-clause-elements g c =
     let m = g.F.Field.meaning in
     let x = c.args.self.now.received.now in
-    let s = x.syndromes.now.terms.items in
+    let s = terms x.syndromes.now in
     let n = length c.args.self.now.places.now in
     let is : c.copy_from_slice.new.self ≡ take n s = c.copy_from_slice.ensures.after ∙ ap (take n) c.terms.ensures.value in
     let long = front_length _ s n is c.args.self.now.enough in
@@ -18,7 +19,7 @@ pub returns : goal.returns
 returns g c =
     let m = g.F.Field.meaning in
     let x = c.args.self.now.received.now in
-    let s = x.syndromes.now.terms.items in
+    let s = terms x.syndromes.now in
     let n = length c.args.self.now.places.now in
     let is : c.copy_from_slice.new.self ≡ take n s = c.copy_from_slice.ensures.after ∙ ap (take n) c.terms.ensures.value in
     let long = front_length _ s n is c.args.self.now.enough in

@@ -1,4 +1,5 @@
 use Rattle.std.proofs.Common.{◌≡◌, ℕ, ◌+◌, List, length, get_or, sym, ap, ◌∙◌, subst, arith}
+use Rattle.solving.specs.Sequences.{terms}
 use Rattle.fields.specs.Laws.{power}
 use Rattle.algebra.specs.Lines.{Elements}
 use Rattle.reed_solomon.specs.declared.numbers.CodeNumbers.{CodeNumbers}
@@ -21,7 +22,7 @@ loop-i-preserved g c =
     let m = g.F.Field.meaning in
     let t = g.met.F.Field.laws in
     let x = c.args.self.now.received.now in
-    let below : Elements m x.table.now = table_elements m t x.code.now.numbers x.line.now x.table.now x.syndromes.now.terms.items x.known in
+    let below : Elements m x.table.now = table_elements m t x.code.now.numbers x.line.now x.table.now (terms x.syndromes.now) x.known in
     let X = located_at x.table.now c.args.self.now.places.now in
     let n = length c.args.self.now.places.now in
     let s = c.args.sums.now in
@@ -50,7 +51,7 @@ returns-clause-value g c =
     let m = g.F.Field.meaning in
     let t = g.met.F.Field.laws in
     let x = c.args.self.now.received.now in
-    let below : Elements m x.table.now = table_elements m t x.code.now.numbers x.line.now x.table.now x.syndromes.now.terms.items x.known in
+    let below : Elements m x.table.now = table_elements m t x.code.now.numbers x.line.now x.table.now (terms x.syndromes.now) x.known in
     let X = located_at x.table.now c.args.self.now.places.now in
     let w = length c.args.self.now.places.now in
     let b : c.numbers-b.result.root ≡ x.code.now.numbers.root = ap (λ (k : CodeNumbers). k.root) c.numbers-b.ensures in
