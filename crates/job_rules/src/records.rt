@@ -66,7 +66,7 @@ pub struct Lines {
 }
 
 impl Lines {
-    ghost use Rattle.job_rules.specs.Records.{fresh, crossing, on, opened};
+    ghost use Rattle.job_rules.specs.Records.{fresh, crossing, on, opened, tallies};
 
     // Every line is open, and nothing is tallied.
     pub fn new() -> Lines
@@ -95,6 +95,7 @@ impl Lines {
         ensures value { result.now ≡ take n (on kind self.now) }
         ensures most { length result.now ≤ 255 }
         ensures room { length (on kind self.now) ≡ 255 }
+        ensures low { tallies result.now ≤ tallies (on kind self.now) }
     {
         let records = self.of(kind);
         &records[..n.min(records.len())]
