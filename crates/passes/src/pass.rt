@@ -10,15 +10,17 @@ use codes::{LineCode, put_column, take_column};
 use job_rules::{Effort, Kind, Lines};
 
 // The pass comes to line i of n. A row is decoded in the frame itself, as a part from its middle; a column is
-// decoded in a copy of it, which goes back into the frame.
+// decoded in a copy of it, which goes back into the frame. `line` has room for the copy, and the length of a line.
 fn visit<C: LineCode>(
     code: &mut C,
     lines: &mut Lines,
     kind: Kind,
     frame: &mut [u8],
+    line: &mut [u8],
     i: usize,
     n: usize,
 ) -> Effort
+    requires line { length line.old ≡ (C.LineCode.meaning code.old).size }
     requires size { length frame.old ≡ n * (C.LineCode.meaning code.old).size }
     requires within { i < n }
     requires few { n ≤ 255 }
@@ -30,15 +32,13 @@ fn visit<C: LineCode>(
     ensures once { result.decodings ≤ 1 }
     ensures low { result.changes ≤ 255 }
 {
-    let size = code.length() as usize;
     match kind {
         Kind::Row => {
+            let size = line.len();
             let at = i * size;
             visit_line(code, lines, kind, i, &mut frame[at..at + size])
         }
         Kind::Column => {
-            let mut room = [0u8; 255];
-            let line = &mut room[..size];
             take_column(line, frame, n, i).unwrap();
             let effort = visit_line(code, lines, kind, i, line);
             put_column(frame, line, n, i).unwrap();
@@ -61,9 +61,12 @@ pub fn pass_over<C: LineCode>(
     ensures made { Made (C.LineCode.meaning code.old) (lines_of kind (C.LineCode.meaning code.old).size n) n (sofar kind lines.old frame.old 0 0 (C.LineCode.count code.old)) (sofar kind lines.new frame.new result.decodings result.changes (C.LineCode.count code.new)) }
     ensures same { C.LineCode.meaning code.new ≡ C.LineCode.meaning code.old }
 {
+    // Asked once: a line that is skipped makes no call to the code.
+    let size = code.length() as usize;
+    let mut room = [0u8; 255];
     let mut effort = Effort::default();
     for i in 0..n {
-        let visited = visit(code, lines, kind, frame, i, n);
+        let visited = visit(code, lines, kind, frame, &mut room[..size], i, n);
         effort.decodings += visited.decodings;
         effort.changes += visited.changes;
     }
