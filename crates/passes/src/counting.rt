@@ -1,6 +1,5 @@
 // Counts over lines and their records.
-ghost use Rattle.std.specs.Prelude.{◌≡◌, ◌^◌, ◌<◌, ◌≤◌, not, length, count_by, ◌==◌};
-ghost use Rattle.std.specs.List.{zip};
+ghost use Rattle.std.specs.Prelude.{◌≡◌, ◌^◌, ◌<◌, ◌≤◌, length};
 ghost use Rattle.codes.specs.Meaning.{differ};
 ghost use Rattle.job_rules.specs.Records.{how_many, tallies};
 
@@ -25,17 +24,17 @@ pub fn sum_tallies(records: &[Record]) -> u64
     records.iter().map(|record| record.tally).sum()
 }
 
-// How many pairs of bytes at one place are unlike.
-fn unlike_pairs(one: &[u8], two: &[u8]) -> usize
-    ensures { result ≡ count_by (λ p. not (p.0 == p.1)) (zip one.now two.now) }
-{
-    one.iter().zip(two).filter(|(a, b)| a != b).count()
-}
-
-// At how many places two lines, or two frames, of one length differ.
+// At how many places two lines, or two frames, of one length differ. With the place, and not by pairs: a zip
+// asks at each pair whether either of the two has ended.
 pub fn differences(one: &[u8], two: &[u8]) -> u64
     requires { length one.now ≡ length two.now }
     ensures { result ≡ differ one.now two.now }
 {
-    unlike_pairs(one, two) as u64
+    let mut n = 0;
+    for (i, a) in one.iter().enumerate() {
+        if *a != two[i] {
+            n += 1;
+        }
+    }
+    n
 }

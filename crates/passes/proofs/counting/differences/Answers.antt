@@ -1,21 +1,19 @@
-use Rattle.std.proofs.Common.{◌≡◌, ℕ, ◌+◌, Bool, true, false, cond, eqb, not, List, [], ◌∷◌, count_by, refl, ap, ◌∙◌}
-use Rattle.std.proofs.lemmas.List.Sums.{sum_by-cons}
-use Rattle.std.specs.List.{zip}
+use Rattle.std.proofs.Common.{◌≡◌, ℕ, ◌+◌, ◌<◌, ◌≤◌, cond, eqb, List, length, get_or, drop, arith, rules}
+use Rattle.std.proofs.lemmas.List.{drop_more, drop_all}
 use Rattle.codes.specs.Meaning.{differ}
 use Rattle.passes.proofs.counting.differences.Goals as goal
 
-abbrev unlike : ℕ × ℕ → Bool
-unlike p = not (eqb p.0 p.1)
+turn : (one two : List ℕ) (i : ℕ) → i < length one → i < length two → differ (drop i one) (drop i two) ≡ cond (eqb (get_or one i 0) (get_or two i 0)) 0 1 + differ (drop (i + 1) one) (drop (i + 1) two)
+turn one two i h k = rw (drop_more one i 0 h, drop_more two i 0 k)
 
-flip : (b : Bool) → ◌≡◌ {A = ℕ} (cond (not b) 1 0) (cond b 0 1)
-flip true = refl
-flip false = refl
+at_end : (one two : List ℕ) (i : ℕ) → length one ≤ i → differ (drop i one) (drop i two) ≡ 0
+at_end one two i h = rw (drop_all i one h)
 
-differ_counts : (one two : List ℕ) → count_by unlike (zip one two) ≡ differ one two
-differ_counts [] two = refl
-differ_counts (x ∷ one) [] = refl
-differ_counts (x ∷ one) (y ∷ two) =
-    sum_by-cons (λ (p : ℕ × ℕ). cond (unlike p) 1 0) (x, y) (zip one two) ∙ ap (λ n. n + count_by unlike (zip one two)) (flip (eqb x y)) ∙ ap (λ n. cond (eqb x y) 0 1 + n) (differ_counts one two)
+pub loop-i-preserved : goal.loop-i-preserved
+loop-i-preserved c =
+    let t = turn c.args.one.now c.args.two.now c.loop-i.i (omega arith) (omega arith) in
+    let inv = c.loop-i.invariant in
+    search rules
 
 pub returns : goal.returns
-returns c = c.unlike_pairs.ensures ∙ differ_counts c.args.one.now c.args.two.now
+returns c = omega (arith, at_end c.args.one.now c.args.two.now c.loop-i.i (omega arith))
