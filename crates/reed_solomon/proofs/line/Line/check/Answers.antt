@@ -5,7 +5,9 @@ use Rattle.std.proofs.lemmas.Iterator.{cases_from_all, YieldsList-from_slice}
 use Rattle.reed_solomon.proofs.Apart.{word_to, word_from}
 use Rattle.reed_solomon.proofs.Differ.{all_below, below_at}
 use Rattle.reed_solomon.proofs.Zeros.{zeros_all, zeros_each}
+use Rattle.algebra.specs.Lines.{Elements}
 use Rattle.reed_solomon.proofs.line.Line.check.Goals as goal
+use Rattle.reed_solomon.proofs.line.Line.check.Goals.{else-line-self-via-then-line-self+else-not-is_readable, else-line-self-via-else-line-self}
 
 -- what `all` answers where each number was asked to be 0
 zero_each : (r : Bool) (xs : List ℕ) → MatchBool r (AllWithin (λ x. x ≡ 0) xs 0 (length xs)) ((k : ℕ) × (k < length xs) × HoldsAt (λ x. x ≡ 0 → ⊥) xs k)
@@ -13,19 +15,22 @@ zero_each : (r : Bool) (xs : List ℕ) → MatchBool r (AllWithin (λ x. x ≡ 0
 zero_each true xs m = (λ e k l. m k 0 (omega arith) l, λ h. refl)
 zero_each false xs m = (λ e. absurd (cc), λ h. absurd (m.2 0 (h m.0 m.1)))
 
-pub returns-else-is_readable : goal.returns-else-is_readable
-returns-else-is_readable g c = (
-  c.in_ok-syndromes.ensures.0,
+pub returns-then-not-is_readable : goal.returns-then-not-is_readable
+returns-then-not-is_readable g c = (
+  c.if-line-self.true,
   λ e. absurd (search rules),
-  λ w. c.is_readable.ensures.1 (below_at g.F.Field.meaning.q c.args.line.now w.below),
+  λ w. sym c.if-not-is_readable.true ∙ c.is_readable.ensures.1 (below_at g.F.Field.meaning.q c.args.line.now w.below),
 )
 
-pub returns-then-is_readable : goal.returns-then-is_readable
-returns-then-is_readable g c =
+pub returns : goal.returns
+returns g c =
     let m = g.F.Field.meaning in
     let s = c.args.self.now.numbers in
     let line = c.args.line.now in
-    let elements = c.is_readable.ensures.0 c.if-is_readable.true in
+    let elements : Elements m line = elim c.else-line-self.branch [
+      | else-line-self-via-then-line-self+else-not-is_readable w ↦ w.is_readable.ensures.0 w.if-not-is_readable.false
+      | else-line-self-via-else-line-self w ↦ absurd (w.if-line-self.false c.in_ok-syndromes.ensures.0)
+    ] in
     let zero = zero_each _ _ (cases_from_all _ _ _ (λ x. x ≡ 0) (λ x. x ≡ 0 → ⊥) c.all.ensures.ran (YieldsList-from_slice c.syndromes.new.sums cc) (λ x q k. search (rules, tests)) (λ x q k. search (rules, tests))) in
     let long : length c.syndromes.new.sums ≡ s.length - s.dimension = omega (arith, length-take-le {A = ℕ}) in (
       c.in_ok-syndromes.ensures.0,
