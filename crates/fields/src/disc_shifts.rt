@@ -4,6 +4,7 @@ ghost use Rattle.fields.specs.Fields.{disc_tests};
 
 use crate::DiscField;
 use crate::shifts::{Modulus, Shifts};
+use std::marker::PhantomData;
 
 // x^8 + x^4 + x^3 + x^2 + 1.
 pub struct DiscModulus;
@@ -24,6 +25,11 @@ impl Modulus for DiscModulus {
 
 // The disc field, computed without tables.
 pub type DiscShifts = Shifts<DiscModulus>;
+
+// Its value, by the name of the type, as that of a struct without fields has it.
+pub const DiscShifts: DiscShifts = Shifts {
+    modulus: PhantomData,
+};
 
 impl DiscField for DiscShifts {
     ghost is_disc = { Prim.search rules };

@@ -3,6 +3,7 @@ ghost use Rattle.std.proofs.Common.{lit≤};
 ghost use Rattle.fields.specs.Fields.{gf64_tests};
 
 use crate::shifts::{Modulus, Shifts};
+use std::marker::PhantomData;
 
 // x^6 + x + 1.
 pub struct Gf64Modulus;
@@ -23,3 +24,8 @@ impl Modulus for Gf64Modulus {
 
 // The field of 64 elements.
 pub type Gf64 = Shifts<Gf64Modulus>;
+
+// Its value, by the name of the type, as that of a struct without fields has it.
+pub const Gf64: Gf64 = Shifts {
+    modulus: PhantomData,
+};

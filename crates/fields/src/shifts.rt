@@ -26,7 +26,8 @@ pub trait Modulus {
 
 // The field of 2^m elements modulo M.
 pub struct Shifts<M: Modulus> {
-    modulus: PhantomData<M>,
+    // Seen by every crate, so that a value can be made and, having no destructor, be taken apart.
+    pub modulus: PhantomData<M>,
 }
 
 impl<M: Modulus> Shifts<M> {
