@@ -8,7 +8,7 @@ use std::fmt;
 pub fn count(marks: &[bool]) -> usize
     ensures { result ≡ count_by (λ m. m) marks.now }
 {
-    marks.iter().filter(|mark| **mark).count()
+    marks.iter().map(|mark| usize::from(*mark)).sum()
 }
 
 // Lines in a row, by the numbers of the first and the last.
