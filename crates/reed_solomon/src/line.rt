@@ -47,8 +47,6 @@ impl<F: Field> Line<F> {
     }
 
     // As many syndromes of a line as `sums` has room for, from S_b on. Another length is refused, and nothing written.
-    // In line at its callers, where the number of syndromes and the first root are often known.
-    #[inline(always)]
     pub fn syndromes(&self, line: &[u8], sums: &mut [u8]) -> Result<(), codes::Refusal>
         ensures { Receives F.Field.meaning self.now.numbers line.now sums.old sums.new result }
     {

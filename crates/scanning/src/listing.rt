@@ -38,10 +38,12 @@ fn first(marks: &[bool], sought: bool) -> usize
     ensures before { (k : ℕ) → k < result → slice_index_or marks.now k false ≢ sought }
     ensures found { result < length marks.now → slice_index_or marks.now result false ≡ sought }
 {
-    marks
-        .iter()
-        .position(|mark| *mark == sought)
-        .unwrap_or(marks.len())
+    for (i, mark) in marks.iter().enumerate() {
+        if *mark == sought {
+            return i;
+        }
+    }
+    marks.len()
 }
 
 // The first place from `from` on that is marked, or not, as sought; the end where there is none.
