@@ -12,6 +12,7 @@ use crate::sequence::Syndromes;
 use crate::solver::Solver;
 use arrayvec::ArrayVec;
 use fields::Field;
+use std::mem;
 
 // The polynomial 0, with n coefficients.
 fn zero(n: usize) -> ArrayVec<u8, 34>
@@ -26,11 +27,22 @@ fn zero(n: usize) -> ArrayVec<u8, 34>
 
 // Multiplies by x: each coefficient goes up by one place, and the last one is lost.
 fn shift(poly: &mut [u8])
-    requires { 0 < length poly.old }
     ensures { MovesUp poly.old poly.new }
 {
-    poly.rotate_right(1);
-    poly[0] = 0;
+    let mut below = 0;
+    for x in poly.iter_mut() {
+        below = mem::replace(x, below);
+    }
+}
+
+// The update without inversion, in place: `poly` becomes w × poly + d × other.
+fn mend<F: Field>(poly: &mut [u8], w: u8, other: &[u8], d: u8)
+    requires { length other.now ≡ length poly.old }
+    ensures { Mixes F.Field.meaning w poly.old d other.now poly.new }
+{
+    for (i, x) in poly.iter_mut().enumerate() {
+        *x = F::sum(F::product(w, *x), F::product(d, other[i]));
+    }
 }
 
 impl Recurrence {
@@ -66,52 +78,29 @@ impl Recurrence {
         d
     }
 
-    // The update without inversion: scale × locator + d × previous.
-    fn mended<F: Field>(&self, d: u8) -> ArrayVec<u8, 34>
-        ensures len { array_vec_len result ≡ array_vec_len self.now.locator }
-        ensures mends { Mixes F.Field.meaning self.now.scale self.now.locator.items d self.now.previous.items result.items }
-    {
-        let mut sum = ArrayVec::new();
-        for (x, y) in self.locator.iter().zip(self.previous.iter()) {
-            sum.push(F::sum(F::product(self.scale, *x), F::product(d, *y)));
-        }
-        sum
-    }
-
     // The step that keeps the length: the locator is mended, and the previous one shifted on.
-    fn keep<F: Field>(self, d: u8) -> Recurrence
-        requires some { 0 < array_vec_len self.locator }
-        requires short { self.longer ≤ 32 }
-        ensures { Keeps F.Field.meaning d self result }
+    fn keep<F: Field>(&mut self, d: u8)
+        requires { self.old.longer ≤ 32 }
+        ensures { Keeps F.Field.meaning d self.old self.new }
     {
-        let locator = self.mended::<F>(d);
-        let mut previous = self.previous;
-        shift(&mut previous);
-        Recurrence {
-            locator,
-            previous,
-            length: self.length,
-            longer: self.longer + 1,
-            scale: self.scale,
-        }
+        mend::<F>(&mut self.locator, self.scale, &self.previous, d);
+        shift(&mut self.previous);
+        self.longer += 1;
     }
 
     // The step that changes the length: the locator is mended, and what it was is the previous one from now on.
-    fn grow<F: Field>(self, d: u8) -> Recurrence
-        requires some { 0 < array_vec_len self.locator }
-        requires short { self.length ≤ 32 }
-        ensures { Grows F.Field.meaning d self result }
+    fn grow<F: Field>(&mut self, d: u8)
+        requires { self.old.length ≤ 32 }
+        ensures { Grows F.Field.meaning d self.old self.new }
     {
-        let locator = self.mended::<F>(d);
-        let mut previous = self.locator;
-        shift(&mut previous);
-        Recurrence {
-            locator,
-            previous,
-            length: self.longer,
-            longer: self.length + 1,
-            scale: d,
-        }
+        // The two change places first, so that neither is copied: the sum is the same the other way round.
+        mem::swap(&mut self.locator, &mut self.previous);
+        mend::<F>(&mut self.locator, d, &self.previous, self.scale);
+        shift(&mut self.previous);
+        let old = self.length;
+        self.length = self.longer;
+        self.longer = old + 1;
+        self.scale = d;
     }
 }
 
@@ -127,11 +116,11 @@ fn shortest<F: Field>(s: &[u8]) -> Recurrence
     // By number: the discrepancy at r reads every syndrome up to r.
     for r in 0..s.len() {
         let d = recurrence.discrepancy::<F>(s, r);
-        recurrence = if d != 0 && recurrence.length < recurrence.longer {
-            recurrence.grow::<F>(d)
+        if d != 0 && recurrence.length < recurrence.longer {
+            recurrence.grow::<F>(d);
         } else {
-            recurrence.keep::<F>(d)
-        };
+            recurrence.keep::<F>(d);
+        }
     }
     recurrence
 }

@@ -18,15 +18,15 @@ loop-r-preserved g c =
     elim c.if-d-ne0.branch [
       | then-d-ne0+then-recurrence w ↦
           subst (λ (y : Recurrence). Going m t s y (l.r + 1)) (sym w.recurrence-is)
-          (grown m t s x w.grow-recurrence.result l.r d l.invariant (omega arith) c.discrepancy-d.ensures
-          (omega (arith, w.if-recurrence.true)) (omega (arith, w.if-d-ne0.true)) w.grow-recurrence.ensures)
+          (grown m t s x w.grow.new.self l.r d l.invariant (omega arith) c.discrepancy-d.ensures
+          (omega (arith, w.if-recurrence.true)) (omega (arith, w.if-d-ne0.true)) w.grow.ensures)
       | else-d-ne0 w ↦
           subst (λ (y : Recurrence). Going m t s y (l.r + 1)) (sym w.recurrence-is)
-          (kept m t s x w.keep-recurrence.result l.r d l.invariant (omega arith) c.discrepancy-d.ensures
+          (kept m t s x w.keep.new.self l.r d l.invariant (omega arith) c.discrepancy-d.ensures
           (elim w.else-d-ne0.branch [
             | else-d-ne0-via-then-d-ne0+else-recurrence v ↦ inl (omega (arith, v.if-recurrence.false))
             | else-d-ne0-via-else-d-ne0 v ↦ inr (omega (arith, v.if-d-ne0.false))
-          ]) w.keep-recurrence.ensures)
+          ]) w.keep.ensures)
     ]
 
 pub returns-clause-most : goal.returns-clause-most
