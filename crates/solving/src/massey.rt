@@ -14,17 +14,6 @@ use arrayvec::ArrayVec;
 use fields::Field;
 use std::mem;
 
-// The polynomial 0, with n coefficients.
-fn zero(n: usize) -> ArrayVec<u8, 34>
-    requires { n ≤ 34 }
-    ensures len { array_vec_len result ≡ n }
-    ensures cleared { Cleared result.items }
-{
-    let mut poly = ArrayVec::from([0; 34]);
-    poly.truncate(n);
-    poly
-}
-
 // Multiplies by x: each coefficient goes up by one place, and the last one is lost.
 fn shift(poly: &mut [u8])
     ensures { MovesUp poly.old poly.new }
@@ -51,17 +40,20 @@ impl Recurrence {
         requires { n ≤ 32 }
         ensures { Starts n result }
     {
-        let mut locator = zero(n + 2);
-        let mut previous = zero(n + 2);
-        locator[0] = 1;
-        previous[1] = 1;
-        Recurrence {
-            locator,
-            previous,
+        let mut one = [0; 34];
+        one[0] = 1;
+        let mut x = [0; 34];
+        x[1] = 1;
+        let mut start = Recurrence {
+            locator: ArrayVec::from(one),
+            previous: ArrayVec::from(x),
             length: 0,
             longer: 1,
             scale: 1,
-        }
+        };
+        start.locator.truncate(n + 2);
+        start.previous.truncate(n + 2);
+        start
     }
 
     // The discrepancy at the syndrome r: the coefficient r of the product of the locator and the syndromes.
@@ -102,27 +94,26 @@ impl Recurrence {
         self.longer = old + 1;
         self.scale = d;
     }
-}
 
-// A shortest recurrence of the syndromes.
-fn shortest<F: Field>(s: &[u8]) -> Recurrence
-    requires { length s.now ≤ 32 }
-    ensures most { result.length ≤ length s.now }
-    ensures room { array_vec_len result.locator ≡ length s.now + 2 }
-    ensures elements { Elements F.Field.meaning result.locator.items }
-    ensures locates { LocatesAll F.Field.meaning s.now (take (result.length + 1) result.locator.items) }
-{
-    let mut recurrence = Recurrence::start(s.len());
-    // By number: the discrepancy at r reads every syndrome up to r.
-    for r in 0..s.len() {
-        let d = recurrence.discrepancy::<F>(s, r);
-        if d != 0 && recurrence.length < recurrence.longer {
-            recurrence.grow::<F>(d);
-        } else {
-            recurrence.keep::<F>(d);
+    // Goes on from the recurrence of no syndromes to a shortest one of all of them.
+    fn follow<F: Field>(&mut self, s: &[u8])
+        requires few { length s.now ≤ 32 }
+        requires start { Starts (length s.now) self.old }
+        ensures most { self.new.length ≤ length s.now }
+        ensures room { array_vec_len self.new.locator ≡ length s.now + 2 }
+        ensures elements { Elements F.Field.meaning self.new.locator.items }
+        ensures locates { LocatesAll F.Field.meaning s.now (take (self.new.length + 1) self.new.locator.items) }
+    {
+        // By number: the discrepancy at r reads every syndrome up to r.
+        for r in 0..s.len() {
+            let d = self.discrepancy::<F>(s, r);
+            if d != 0 && self.length < self.longer {
+                self.grow::<F>(d);
+            } else {
+                self.keep::<F>(d);
+            }
         }
     }
-    recurrence
 }
 
 // The method as a solver.
@@ -132,7 +123,8 @@ impl<F: Field> Solver<F> for BerlekampMassey {
     // Nothing is answered where the recurrence is longer than half the syndromes, or longer than its polynomial's degree.
     fn solve(syndromes: &Syndromes) -> Option<Polynomial> {
         let s = syndromes.terms();
-        let shortest = shortest::<F>(s);
+        let mut shortest = Recurrence::start(s.len());
+        shortest.follow::<F>(s);
         let length = shortest.length;
         if 2 * length > s.len() {
             return None;

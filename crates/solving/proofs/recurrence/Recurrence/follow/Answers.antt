@@ -1,11 +1,11 @@
 use Rattle.std.proofs.Common.{◌≡◌, ◌+◌, length, sym, subst, inl, inr, arith}
 use Rattle.solving.specs.declared.recurrence.Recurrence.{Recurrence}
 use Rattle.solving.proofs.Going.{Going, started, kept, grown, located}
-use Rattle.solving.proofs.massey.shortest.Goals.{then-d-ne0+then-recurrence, else-d-ne0, else-d-ne0-via-then-d-ne0+else-recurrence, else-d-ne0-via-else-d-ne0}
-use Rattle.solving.proofs.massey.shortest.Goals as goal
+use Rattle.solving.proofs.recurrence.Recurrence.follow.Goals.{then-d-ne0+then-self, else-d-ne0, else-d-ne0-via-then-d-ne0+else-self, else-d-ne0-via-else-d-ne0}
+use Rattle.solving.proofs.recurrence.Recurrence.follow.Goals as goal
 
 pub loop-r-init : goal.loop-r-init
-loop-r-init g c = started g.F.Field.meaning g.met.F.Field.laws c.args.s.now c.start-recurrence.result c.start-recurrence.ensures
+loop-r-init g c = started g.F.Field.meaning g.met.F.Field.laws c.args.s.now c.args.self.now c.requires.start
 
 pub loop-r-preserved : goal.loop-r-preserved
 loop-r-preserved g c =
@@ -14,17 +14,17 @@ loop-r-preserved g c =
     let s = c.args.s.now in
     let l = c.loop-r in
     let d = c.discrepancy-d.result in
-    let x = l.recurrence in
+    let x = l.self in
     elim c.if-d-ne0.branch [
-      | then-d-ne0+then-recurrence w ↦
-          subst (λ (y : Recurrence). Going m t s y (l.r + 1)) (sym w.recurrence-is)
+      | then-d-ne0+then-self w ↦
+          subst (λ (y : Recurrence). Going m t s y (l.r + 1)) (sym w.self-is)
           (grown m t s x w.grow.new.self l.r d l.invariant (omega arith) c.discrepancy-d.ensures
-          (omega (arith, w.if-recurrence.true)) (omega (arith, w.if-d-ne0.true)) w.grow.ensures)
+          (omega (arith, w.if-self.true)) (omega (arith, w.if-d-ne0.true)) w.grow.ensures)
       | else-d-ne0 w ↦
-          subst (λ (y : Recurrence). Going m t s y (l.r + 1)) (sym w.recurrence-is)
+          subst (λ (y : Recurrence). Going m t s y (l.r + 1)) (sym w.self-is)
           (kept m t s x w.keep.new.self l.r d l.invariant (omega arith) c.discrepancy-d.ensures
           (elim w.else-d-ne0.branch [
-            | else-d-ne0-via-then-d-ne0+else-recurrence v ↦ inl (omega (arith, v.if-recurrence.false))
+            | else-d-ne0-via-then-d-ne0+else-self v ↦ inl (omega (arith, v.if-self.false))
             | else-d-ne0-via-else-d-ne0 v ↦ inr (omega (arith, v.if-d-ne0.false))
           ]) w.keep.ensures)
     ]
@@ -35,4 +35,4 @@ returns-clause-most g c = omega (arith, c.loop-r.invariant.sizes, c.loop-r.invar
 pub returns-clause-locates : goal.returns-clause-locates
 returns-clause-locates g c =
     let e : c.loop-r.r ≡ length c.args.s.now = omega arith in
-    located g.F.Field.meaning g.met.F.Field.laws c.args.s.now c.loop-r.recurrence c.loop-r.r e c.loop-r.invariant
+    located g.F.Field.meaning g.met.F.Field.laws c.args.s.now c.loop-r.self c.loop-r.r e c.loop-r.invariant
