@@ -44,11 +44,13 @@ impl<M: Modulus> Shifts<M> {
         ensures { result ≡ shift M.DEGREE M.POLYNOMIAL a }
     {
         let double = u16::from(a) * 2;
-        if double >> M::DEGREE == 0 {
-            double as u8
+        // Only what is added is chosen: a choice between two sums would be slower code.
+        let multiple = if double >> M::DEGREE == 0 {
+            0
         } else {
-            (double ^ M::POLYNOMIAL) as u8
-        }
+            M::POLYNOMIAL
+        };
+        (double ^ multiple) as u8
     }
 
     // a b: for each 1 among the digits of b, the lowest first, a shifted so often.
