@@ -36,13 +36,11 @@ impl<F: DiscField> Coder<F> {
             return Err(codes::Refusal::LineLength);
         }
         let checks = self.numbers.checks() as usize;
-        let mut divisor = [0u8; 33];
-        let g = &mut divisor[..checks + 1];
-        generator::<F>(g, self.numbers.root);
+        let divisor = generator::<F>(checks, self.numbers.root);
         let mut register = [0u8; 32];
         let r = &mut register[..checks];
         let k = self.numbers.dimension as usize;
-        divide::<F>(r, g, &line[..k]);
+        divide::<F>(r, &divisor[..checks + 1], &line[..k]);
         r.reverse();
         line[k..].copy_from_slice(r);
         Ok(())

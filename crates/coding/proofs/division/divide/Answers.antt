@@ -1,6 +1,5 @@
 use Rattle.std.proofs.Common.{◌≡◌, ℕ, ◌+◌, ◌<◌, ◌-◌, length, get_or, sym, refl, subst, arith}
-use Rattle.std.proofs.lemmas.Grind.{common_steps}
-use Rattle.coding.specs.Division.{Zero, Shifts}
+use Rattle.coding.specs.Division.{Shifts}
 use Rattle.algebra.proofs.Elements.{some}
 use Rattle.coding.proofs.Register.{Fed}
 use Rattle.coding.proofs.Divided.{fed_start, fed_step, remains_of}
@@ -8,11 +7,10 @@ use Rattle.coding.proofs.division.divide.Goals as goal
 
 pub loop-symbol-init : goal.loop-symbol-init
 loop-symbol-init g c =
-    let empty : Zero c.fill.new.self = grind (arith, common_steps) in
     let m = g.F.Field.meaning in
     let t = g.met.F.Field.laws in (
-      λ k h. subst (λ (n : ℕ). n < m.q) (sym (empty k h)) (some m t),
-      λ b gen. fed_start m b _ (length c.args.message.now) c.args.message.now c.fill.new.self empty,
+      λ k h. subst (λ (n : ℕ). n < m.q) (sym (c.requires.empty k h)) (some m t),
+      λ b gen. fed_start m b _ (length c.args.message.now) c.args.message.now c.args.r.now c.requires.empty,
     )
 
 pub loop-symbol-preserved : goal.loop-symbol-preserved

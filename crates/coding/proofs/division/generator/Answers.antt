@@ -1,37 +1,60 @@
-use Rattle.std.proofs.Common.{◌≡◌, ℕ, suc, List, ◌+◌, ◌-◌, length, sym, ap, ◌∙◌, subst, ap₂, add-zero, arith, length-set}
-use Rattle.std.proofs.lemmas.Grind.{common_steps}
-use Rattle.coding.specs.Division.{Zero, Shifts}
-use Rattle.fields.specs.Laws.{power}
+use Rattle.std.proofs.Common.{◌≡◌, ℕ, suc, List, ◌+◌, ◌-◌, ◌<◌, ◌≤◌, ◌++◌, length, take, drop, set, replicate, refl, sym, ap, ◌∙◌, subst, ap₂, add-zero, arith, length-take-le, get_or-take}
+use Rattle.std.proofs.lemmas.List.{take_at, get_or-replicate}
+use Rattle.fields.specs.Laws.{Meaning, power}
+use Rattle.algebra.specs.Lines.{Elements}
+use Rattle.algebra.proofs.Numbers.{⟨◌⟩}
+use Rattle.coding.specs.Division.{Zero, Shifts, shifted}
 use Rattle.coding.proofs.Register.{Multiplied}
 use Rattle.coding.proofs.Divided.{one_below, gen_start, gen_step, generator_of}
 use Rattle.coding.proofs.division.generator.Goals as goal
+
+part_elements : (m : Meaning) (n : ℕ) (xs : List ℕ) → n ≤ length xs → Elements m xs → Elements m (take n xs)
+part_elements m n xs l h k lk =
+    let e = length-take-le n xs l in
+    subst (λ (a : ℕ). a < m.q) (sym (get_or-take n xs k 0 (omega arith))) (h k (omega arith))
+
+part_multiplied : (m : Meaning) (b i n : ℕ) (xs : List ℕ) → n ≤ length xs → Multiplied m b xs i → Multiplied m b (take n xs) i
+part_multiplied m b i n xs l h t k lk =
+    let e = length-take-le n xs l in
+    ap (⟨◌⟩ m t) (get_or-take n xs k 0 (omega arith)) ∙ h t k (omega arith)
 
 pub loop-i-init : goal.loop-i-init
 loop-i-init g c =
     let m = g.F.Field.meaning in
     let t = g.met.F.Field.laws in
-    let empty : Zero c.fill.new.self = grind (arith, common_steps) in (
-      one_below m t c.fill.new.self empty,
+    let empty : Zero (replicate 33 0) = λ k h. get_or-replicate 33 k 0 0 h in (
+      length-take-le (c.args.n + 1) (set (replicate 33 0) 0 1) (omega arith),
+      part_elements m (c.args.n + 1) _ (omega arith) (one_below m t (replicate 33 0) empty),
       c.power-z.ensures ∙ ap₂ (power m.mul) (c.GENERATOR.ensures ∙ g.met.F.Field.generator) (sym (add-zero c.args.b)),
-      gen_start m c.args.b c.fill.new.self (omega arith) empty (length-set _ _ _),
+      part_multiplied m c.args.b 0 (c.args.n + 1) _ (omega arith) (gen_start m c.args.b (replicate 33 0) (omega arith) empty refl),
     )
 
 pub loop-i-preserved : goal.loop-i-preserved
 loop-i-preserved g c =
     let m = g.F.Field.meaning in
     let l = c.loop-i in
-    let e : suc (c.args.b + l._i) ≡ c.args.b + (l._i + 1) = omega arith in (
-      c.shift.ensures.elements,
-      c.product-z.ensures.value ∙ ap₂ m.mul (c.GENERATOR-in-loop-i.ensures ∙ g.met.F.Field.generator) l.invariant.1 ∙ ap (power m.mul m.g) e,
-      gen_step m c.args.b l._i l.z l.g c.shift.new.r l.invariant.2 l.invariant.1 c.shift.auto.r
-          (subst (λ (f : List ℕ). Shifts m l.g l.z f c.shift.new.r) c.copy_from_slice.ensures.after c.shift.ensures.is),
+    let part = take (c.args.n + 1) l.g in
+    let r = c.shift.new.r in
+    let e : suc (c.args.b + l._i) ≡ c.args.b + (l._i + 1) = omega arith in
+    let long : length c.shift.new.r ≡ c.args.n + 1 = c.shift.auto.r ∙ l.invariant.0 in
+    let back : take (c.args.n + 1) (c.shift.new.r ++ drop (c.args.n + 1) l.g) ≡ c.shift.new.r = take_at c.shift.new.r _ (c.args.n + 1) long in
+    let is : Shifts m part l.z part r =
+    λ k h. c.shift.ensures.is k h ∙ ap (λ a. m.add (shifted part k) (m.mul l.z a)) (sym (get_or-take (c.args.n + 1) l.g k 0 (omega (arith, h, l.invariant.0)))) in (
+      ap length back ∙ long,
+      subst (Elements m) (sym back) c.shift.ensures.elements,
+      c.product-z.ensures.value ∙ ap₂ m.mul (c.GENERATOR-in-loop-i.ensures ∙ g.met.F.Field.generator) l.invariant.2 ∙ ap (power m.mul m.g) e,
+      subst (λ (xs : List ℕ). Multiplied m c.args.b xs (l._i + 1)) (sym back)
+          (gen_step m c.args.b l._i l.z part r l.invariant.3 l.invariant.2 c.shift.auto.r is),
     )
 
-pub returns-clause-is : goal.returns-clause-is
-returns-clause-is g c =
+pub returns : goal.returns
+returns g c =
     let m = g.F.Field.meaning in
     let l = c.loop-i in
-    let e = length-set c.fill.new.self 0 1 in
-    let some = c.requires.some in
-    let all : l._i ≡ length l.g - 1 = omega arith in
-    generator_of m g.met.F.Field.laws c.args.b l.g (omega arith) l.invariant.0 (subst (λ (n : ℕ). Multiplied m c.args.b l.g n) all l.invariant.2)
+    let part = take (c.args.n + 1) l.g in
+    let long = l.invariant.0 in
+    let all : l._i ≡ length (take (c.args.n + 1) l.g) - 1 = omega arith in
+    record {
+      elements = l.invariant.1;
+      is = generator_of m g.met.F.Field.laws c.args.b part (omega arith) l.invariant.1 (subst (λ (n : ℕ). Multiplied m c.args.b part n) all l.invariant.3);
+    }
