@@ -35,25 +35,31 @@ fn mend<F: Field>(poly: &mut [u8], w: u8, other: &[u8], d: u8)
 }
 
 impl Recurrence {
-    // The recurrence of no syndromes, with room for the polynomials of n of them.
-    fn start(n: usize) -> Recurrence
-        requires { n ≤ 32 }
-        ensures { Starts n result }
+    // The recurrence of no syndromes, with room for the polynomials of 32 of them.
+    fn start() -> Recurrence
+        ensures { Starts 32 result }
     {
         let mut one = [0; 34];
         one[0] = 1;
         let mut x = [0; 34];
         x[1] = 1;
-        let mut start = Recurrence {
+        Recurrence {
             locator: ArrayVec::from(one),
             previous: ArrayVec::from(x),
             length: 0,
             longer: 1,
             scale: 1,
-        };
-        start.locator.truncate(n + 2);
-        start.previous.truncate(n + 2);
-        start
+        }
+    }
+
+    // Cuts the room to what the polynomials of n syndromes need.
+    fn cut(&mut self, n: usize)
+        requires few { n ≤ 32 }
+        requires start { Starts 32 self.old }
+        ensures { Starts n self.new }
+    {
+        self.locator.truncate(n + 2);
+        self.previous.truncate(n + 2);
     }
 
     // The discrepancy at the syndrome r: the coefficient r of the product of the locator and the syndromes.
@@ -95,15 +101,17 @@ impl Recurrence {
         self.scale = d;
     }
 
-    // Goes on from the recurrence of no syndromes to a shortest one of all of them.
+    // Goes on from the recurrence of no syndromes to a shortest one of all of them. In place, as `cut`, `keep` and `grow`:
+    // a recurrence that is handed out is copied.
     fn follow<F: Field>(&mut self, s: &[u8])
         requires few { length s.now ≤ 32 }
-        requires start { Starts (length s.now) self.old }
+        requires start { Starts 32 self.old }
         ensures most { self.new.length ≤ length s.now }
         ensures room { array_vec_len self.new.locator ≡ length s.now + 2 }
         ensures elements { Elements F.Field.meaning self.new.locator.items }
         ensures locates { LocatesAll F.Field.meaning s.now (take (self.new.length + 1) self.new.locator.items) }
     {
+        self.cut(s.len());
         // By number: the discrepancy at r reads every syndrome up to r.
         for r in 0..s.len() {
             let d = self.discrepancy::<F>(s, r);
@@ -123,7 +131,7 @@ impl<F: Field> Solver<F> for BerlekampMassey {
     // Nothing is answered where the recurrence is longer than half the syndromes, or longer than its polynomial's degree.
     fn solve(syndromes: &Syndromes) -> Option<Polynomial> {
         let s = syndromes.terms();
-        let mut shortest = Recurrence::start(s.len());
+        let mut shortest = Recurrence::start();
         shortest.follow::<F>(s);
         let length = shortest.length;
         if 2 * length > s.len() {

@@ -5,7 +5,7 @@ use Rattle.solving.proofs.recurrence.Recurrence.follow.Goals.{then-d-ne0+then-se
 use Rattle.solving.proofs.recurrence.Recurrence.follow.Goals as goal
 
 pub loop-r-init : goal.loop-r-init
-loop-r-init g c = started g.F.Field.meaning g.met.F.Field.laws c.args.s.now c.args.self.now c.requires.start
+loop-r-init g c = started g.F.Field.meaning g.met.F.Field.laws c.args.s.now c.cut.new.self c.cut.ensures
 
 pub loop-r-preserved : goal.loop-r-preserved
 loop-r-preserved g c =
