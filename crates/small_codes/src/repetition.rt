@@ -18,9 +18,7 @@ fn others(line: &[u8], symbol: u8) -> usize
     ensures value { result ≡ unlike symbol line.now }
     ensures most { result ≤ length line.now }
 {
-    line.iter()
-        .map(|byte| usize::from(*byte != symbol))
-        .sum()
+    line.iter().map(|byte| usize::from(*byte != symbol)).sum()
 }
 
 // The symbol that more than half of the bytes are.
