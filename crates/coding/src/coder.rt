@@ -36,7 +36,8 @@ impl<F: DiscField> Coder<F> {
             return Err(codes::Refusal::LineLength);
         }
         let checks = self.numbers.checks() as usize;
-        let divisor = generator::<F>(checks, self.numbers.root);
+        let mut divisor = [0u8; 33];
+        generator::<F>(&mut divisor, checks, self.numbers.root);
         let mut register = [0u8; 32];
         let r = &mut register[..checks];
         let k = self.numbers.dimension as usize;

@@ -8,6 +8,7 @@ use fields::Field;
 use reed_solomon::power;
 
 // r becomes r times x, plus f times g. Its highest coefficient is lost.
+// Inlined, so that what the field's products need is loaded once and not for each symbol.
 #[inline]
 fn shift<F: Field>(r: &mut [u8], g: &[u8], f: u8)
     requires long { length r.old ≤ length g.now }
@@ -23,22 +24,21 @@ fn shift<F: Field>(r: &mut [u8], g: &[u8], f: u8)
     }
 }
 
-// The product of the x - α^(b+j), as many as n, in the first places of a room for 32.
-pub(crate) fn generator<F: Field>(n: usize, b: u8) -> [u8; 33]
+// The product of the x - α^(b+j), as many as n, in the first places of a room for 32, which is empty before.
+pub(crate) fn generator<F: Field>(g: &mut [u8; 33], n: usize, b: u8)
     requires few { n ≤ 32 }
-    ensures elements { Elements F.Field.meaning (take (n + 1) result) }
-    ensures is { Generator F.Field.meaning b (take (n + 1) result) }
+    requires empty { Zero g.old }
+    ensures elements { Elements F.Field.meaning (take (n + 1) g.new) }
+    ensures is { Generator F.Field.meaning b (take (n + 1) g.new) }
 {
-    let mut g = [0u8; 33];
     g[0] = 1;
     let mut z = power::<F>(F::GENERATOR, b);
     // The product so far, times x + z, is itself times x, plus itself times z.
     for _i in 0..n {
-        let product = g;
+        let product = *g;
         shift::<F>(&mut g[..n + 1], &product, z);
         z = F::product(F::GENERATOR, z);
     }
-    g
 }
 
 // Divides a message, the highest coefficient first, by g: what is left stands in the register, which is empty before.

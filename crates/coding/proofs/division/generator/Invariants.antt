@@ -7,7 +7,7 @@ use Rattle.coding.proofs.division.generator.Given as goal
 abbrev pub invariant-loop-i : goal.invariant-loop-i
 invariant-loop-i g l =
     let m = g.F.Field.meaning in
-    (length (take (l.n + 1) l.g) ≡ l.n + 1)
+    (length l.g ≡ 33)
     × Elements m (take (l.n + 1) l.g)
     × (l.z ≡ power m.mul m.g (l.b + l._i))
     × Multiplied m l.b (take (l.n + 1) l.g) l._i

@@ -1,5 +1,5 @@
 use Rattle.std.proofs.Common.{◌≡◌, ℕ, ◌+◌, ◌-◌, ◌<◌, ◌≤◌, List, length, reverse, take, get_or, replicate, sym, ap, subst, ◌∙◌, arith, rules, length-take-le, get_or-take}
-use Rattle.std.proofs.lemmas.List.{get_or-reverse, get_or-replicate}
+use Rattle.std.proofs.lemmas.List.{get_or-reverse, get_or-replicate, length-replicate}
 use Rattle.std.proofs.lemmas.Grind.{common_steps}
 use borrow.Rule.Slice.PartMut.{put_mid}
 use Rattle.fields.specs.Laws.{Meaning}
@@ -14,14 +14,20 @@ written : (a k : ℕ) (xs ys : List ℕ) → a + k ≡ length xs → length ys �
     × ((q : ℕ) → q < k → get_or (put_mid a k xs ys) (a + q) 0 ≡ get_or ys q 0)
 written a k xs ys long e = (grind (arith, common_steps), λ p h. grind (arith, common_steps), λ q h. grind (arith, common_steps))
 
+zero : (n : ℕ) → Zero (replicate n 0)
+zero n k h = let e = length-replicate {A = ℕ} n 0 in get_or-replicate n k 0 0 (omega arith)
+
 -- a part from the start of zeros
-part_zero : (n : ℕ) (xs : List ℕ) → n ≤ length xs → Zero xs → Zero (take n xs)
-part_zero n xs l h k lk =
+taken_zero : (n : ℕ) (xs : List ℕ) → n ≤ length xs → Zero xs → Zero (take n xs)
+taken_zero n xs l h k lk =
     let e = length-take-le n xs l in
     get_or-take n xs k 0 (omega arith) ∙ h k (omega arith)
 
+pub generator-requires-clause-empty : goal.generator-requires-clause-empty
+generator-requires-clause-empty g c = zero 33
+
 pub divide-requires-clause-empty : goal.divide-requires-clause-empty
-divide-requires-clause-empty g c = part_zero c.checks-checks.result (replicate 32 0) (search rules) (λ k h. get_or-replicate 32 k 0 0 h)
+divide-requires-clause-empty g c = taken_zero c.checks-checks.result (replicate 32 0) (search rules) (zero 32)
 
 pub divide-requires-clause-symbols : goal.divide-requires-clause-symbols
 divide-requires-clause-symbols g c =
@@ -55,7 +61,7 @@ returns g c =
     let done = completed m g.met.F.Field.laws n.root checks n.dimension line after r
     (omega arith) (omega arith) elements c.divide.ensures.elements lr (omega arith) w.0 w.1
     (λ q h. w.2 q (omega arith) ∙ ap (λ xs. get_or xs q 0) end ∙ get_or-reverse r q 0 h)
-    (c.divide.ensures.remains n.root c.generator-divisor.ensures.is) in
+    (c.divide.ensures.remains n.root c.generator.ensures.is) in
     codes_of n.length n.dimension n.root n.order line after (omega arith) n.less c.args.self.now.disc
     (subst (λ (m : Meaning). Completed m n.root (n.length - n.dimension) line after) g.met.F.DiscField.is_disc
     (subst (λ (k : ℕ). Completed m n.root k line after) c.checks-checks.ensures done))
