@@ -1,5 +1,5 @@
 // The values at known places, for every first root and for as many places as there are syndromes.
-ghost use Rattle.std.specs.Prelude.{◌≡◌, ℕ, ◌+◌, ◌<◌, ◌≤◌, length, slice_index};
+ghost use Rattle.std.specs.Prelude.{◌≡◌, ℕ, ◌+◌, ◌<◌, length, slice_index};
 ghost use Rattle.algebra.specs.Lines.{Elements};
 ghost use Rattle.solving.specs.Sequences.{terms};
 ghost use Rattle.errors.specs.Places.{IsErrorValue, IsCorrected, Fixes};

@@ -3,7 +3,7 @@ ghost use Rattle.std.specs.Prelude.{◌≡◌, ◌+◌, ◌<◌, ◌≤◌, leng
 ghost use Rattle.arrayvec.specs.ArrayVec.{array_vec_len};
 ghost use Rattle.algebra.specs.Lines.{Elements};
 ghost use Rattle.solving.specs.Solving.{LocatesAll};
-ghost use Rattle.solving.specs.Steps.{coefficient, Cleared, MovesUp, Mixes};
+ghost use Rattle.solving.specs.Steps.{coefficient, MovesUp, Mixes};
 ghost use Rattle.solving.specs.Recurrences.{Starts, Keeps, Grows};
 
 use crate::polynomial::Polynomial;
