@@ -38,7 +38,7 @@ fn first(marks: &[bool], sought: bool) -> usize
     ensures before { (k : ℕ) → k < result → slice_index_or marks.now k false ≢ sought }
     ensures found { result < length marks.now → slice_index_or marks.now result false ≡ sought }
 {
-    // By a loop with the place: `position` makes slower code of it.
+    // With the place: it is the answer.
     for (i, mark) in marks.iter().enumerate() {
         if *mark == sought {
             return i;
